@@ -1,0 +1,3 @@
+pub mod Arrows
+pub mod Model
+pub mod Forest

@@ -1,0 +1,1 @@
+// Theory alone: see specs/ and proofs/.

@@ -1,0 +1,6 @@
+pub mod Legal
+pub mod RuleLaws
+pub mod LoopLaws
+pub mod TableLaws
+pub mod Tests
+pub mod WorkedCases

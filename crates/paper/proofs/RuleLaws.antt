@@ -1,0 +1,60 @@
+-- The columns of the table of four rules agree: a slack of at least 0, the inequality of the third column, and arrow with amount say the
+-- same. And a longer period takes no schedule away.
+use mathlib.Core.Path.{_≡_}
+use mathlib.Core.Logic.{_↔_}
+use Prim.Native.Nat.{ℕ, _≤_}
+use lib.IntN.{ℤ, pos, _+ℤ_, _-ℤ_}
+use lib.Signed.{_≤ℤ_}
+use Rattle.whole.proofs.Lin.{lin, plus, minus, negs}
+use Rattle.paper.specs.Network.{Network}
+use Rattle.paper.specs.Rules.{Rule, Setup, Hold, Low, High, Holds, Met, tail, head, base, amount}
+use Rattle.paper.specs.Schedule.{Schedule}
+
+-- a difference is at least 0 exactly when what is taken away is at most what it is taken from
+difference : (a b : ℤ) → (pos 0 ≤ℤ (b -ℤ a)) ↔ (a ≤ℤ b)
+difference a b = ((λ h. omega (lin, negs a)), (λ h. omega (lin, negs a)))
+
+-- what is taken from one side may as well be added to the other
+moved : (a b c d : ℤ) → ((a +ℤ b) ≤ℤ (c +ℤ d)) ↔ ((a +ℤ (b -ℤ d)) ≤ℤ c)
+moved a b c d = ((λ h. omega (lin, minus b d)), (λ h. omega (lin, minus b d)))
+
+-- and a sum may be grouped from its other end
+grouped2 : (a b c : ℤ) → a +ℤ b +ℤ c ≡ a +ℤ (b +ℤ c)
+grouped2 a b c = omega (lin, plus a b, plus b c)
+
+grouped3 : (a b c d : ℤ) → a +ℤ b +ℤ c +ℤ d ≡ a +ℤ (b +ℤ c +ℤ d)
+grouped3 a b c d = simp grouped2
+
+module _ (N : Network) where
+  -- "Yes is given exactly when the named rule's inequality holds.": a rule is met by the latencies at its two ends exactly when the
+  -- table's third column holds
+  pub met-is-rule : (P : ℕ) (x : ℕ → ℤ) (r : Rule) → Met N P r (x (tail N r)) (x (head N r)) ↔ Holds N P x r
+  met-is-rule P x (Setup p) = difference _ _
+  met-is-rule P x (Hold p) = difference _ _
+  met-is-rule P x (Low i) = difference _ _
+  met-is-rule P x (High i) = difference _ _
+
+  -- "Each rule says: the latency at the arrow's head is at least the latency at its tail plus the amount."
+  pub arrow-is-rule : (P : ℕ) (x : ℕ → ℤ) (r : Rule) → x 0 ≡ pos 0 → Holds N P x r ↔ ((x (tail N r) +ℤ amount N P r) ≤ℤ x (head N r))
+  arrow-is-rule P x (Setup p) host =
+      rw (grouped3 (x (N .from p))) (moved (x (N .from p)) (base N (Setup p)) (x (N .to p)) (pos P))
+  arrow-is-rule P x (Hold p) host =
+      rw (grouped2 (x (N .to p))) (moved (x (N .to p)) (N .hold (N .to p) +ℤ N .uncertainty p) (x (N .from p)) (N .dmin p))
+  arrow-is-rule P x (Low i) host = ((λ h. omega lin), (λ h. omega lin))
+  arrow-is-rule P x (High i) host = ((λ h. omega (lin, negs (N .high i))), (λ h. omega (lin, negs (N .high i))))
+
+  -- "dmax + s_j + u - P": the period stands in the amount of a setup rule alone, and a longer one raises no amount
+  pub amount-falls : (P Q : ℕ) (r : Rule) → P ≤ Q → amount N Q r ≤ℤ amount N P r
+  amount-falls P Q (Setup p) h = omega (lin, negs (pos P), negs (pos Q))
+  amount-falls P Q (Hold p) h = omega lin
+  amount-falls P Q (Low i) h = omega lin
+  amount-falls P Q (High i) h = omega lin
+
+  -- so what "meets all rules" at P meets them at every longer period
+  pub schedule-stays : (P Q : ℕ) (x : ℕ → ℤ) → P ≤ Q → Schedule N P x → Schedule N Q x
+  schedule-stays P Q x h s = record { host = s .host; meets = λ r e. later r (s .meets r e) }
+    where
+      later : (r : Rule) → Holds N P x r → Holds N Q x r
+      later r m =
+          let a = arrow-is-rule P x r (s .host) .0 m in
+          arrow-is-rule Q x r (s .host) .1 (omega (lin, amount-falls P Q r h))

@@ -1,0 +1,78 @@
+-- Tests that compute, each with what it shows when it passes. A statement over a table is then one test, run once.
+use mathlib.Core.Path.{_≡_}
+use mathlib.Core.Logic.{_≢_}
+use mathlib.Core.List.{List, [], _∷_}
+use mathlib.Core.Bool.{Bool, true, false, not, _&&_}
+use Prim.Native.Nat.{ℕ, zero, suc, _<_, _≤_}
+use native.Mathlib.Omega.{arith}
+use native.Mathlib.Decide.{decLt}
+use lib.IntN.{ℤ}
+use lib.Signed.{leZ, ltZ, _≤ℤ_, _<ℤ_}
+use lib.Dec.{leb, ltb, eqb}
+use borrow.Author.Tests.{leb-true, ltb-true, eqb-true, eqb-false, not-true}
+use Rattle.whole.proofs.Lin.{lin}
+use Rattle.paper.specs.Chains.{All}
+use Rattle.paper.proofs.Legal.{both}
+
+pub record Test (A : Type 0) : Type 0 where
+  pub passes : Bool
+  pub shows : passes ≡ true → A
+
+pub false-not : false ≡ true → ⊥
+false-not e = let z : _≡_ {A = ℕ} 0 1 = cc in omega arith
+
+module _ {A B : Type 0} where
+  abbrev pub via : (A → B) → Test A → Test B
+  via f t = record { passes = t .passes; shows = λ e. f (t .shows e) }
+
+  abbrev pub pair : Test A → Test B → Test (A × B)
+  pair s t =
+      record {
+        passes = s .passes && t .passes;
+        shows = λ e. let p = both (s .passes) (t .passes) e in (s .shows (p .0), t .shows (p .1));
+      }
+
+abbrev pub nothing : Test (Unit {0})
+nothing = record { passes = true; shows = λ e. tt }
+
+abbrev pub never : (A : Type 0) → Test A
+never A = record { passes = false; shows = λ e. absurd (false-not e) }
+
+abbrev pub isTrue : (b : Bool) → Test (b ≡ true)
+isTrue b = record { passes = b; shows = λ e. e }
+
+abbrev pub less : (a b : ℕ) → Test (a < b)
+less a b = record { passes = ltb a b; shows = λ e. ltb-true a b e }
+
+abbrev pub atMost : (a b : ℕ) → Test (a ≤ b)
+atMost a b = record { passes = leb a b; shows = λ e. leb-true a b e }
+
+abbrev pub same : (a b : ℕ) → Test (a ≡ b)
+same a b = record { passes = eqb a b; shows = λ e. eqb-true a b e }
+
+abbrev pub differ : (a b : ℕ) → Test (a ≢ b)
+differ a b = record { passes = not (eqb a b); shows = λ e. eqb-false a b (not-true (eqb a b) e) }
+
+abbrev pub atMostℤ : (a b : ℤ) → Test (a ≤ℤ b)
+atMostℤ a b = record { passes = leZ a b; shows = λ e. omega lin }
+
+abbrev pub lessℤ : (a b : ℤ) → Test (a <ℤ b)
+lessℤ a b = record { passes = ltZ a b; shows = λ e. omega lin }
+
+-- of every member of a list, and of every number below n
+module _ {E : Type 0} (P : E → Type 0) (t : (e : E) → Test (P e)) where
+  abbrev pub every : (l : List E) → Test (All P l)
+  every [] = nothing
+  every (e ∷ l) = pair (t e) (every l)
+
+module _ (P : ℕ → Type 0) where
+  pub one-more : (n : ℕ) → P n × ((i : ℕ) → i < n → P i) → (i : ℕ) → i < suc n → P i
+  one-more n h i l = split (decLt i n)
+    where
+      split : Dec (i < n) → P i
+      split (yes k) = h .1 i k
+      split (no k) = let e : i ≡ n = omega arith in rw e (h .0)
+
+  abbrev pub below : ((i : ℕ) → Test (P i)) → (n : ℕ) → Test ((i : ℕ) → i < n → P i)
+  below t zero = record { passes = true; shows = λ e i l. absurd (omega arith) }
+  below t (suc n) = via (one-more n) (pair (t n) (below t n))

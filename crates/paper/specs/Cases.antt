@@ -1,0 +1,144 @@
+-- Networks worked by hand: the paper's eleven cases, as one table. A row writes its network in the paper's own terms and says what comes
+-- of it; `Worked` says that the definitions agree, and `proofs/WorkedCases.antt` shows it for the whole table.
+use mathlib.Core.Path.{_≡_}
+use mathlib.Core.List.{List, [], _∷_, _++_}
+use Prim.Native.Nat.{ℕ, _+_, _*_, _≤_}
+use lib.IntN.{ℤ, pos, negℤ}
+use lib.ListN.{length, getD}
+use Rattle.whole.specs.Four.{four}
+use Rattle.paper.specs.Network.{Network}
+use Rattle.paper.specs.Rules.{Rule, Setup, Hold, High}
+use Rattle.paper.specs.Schedule.{Answer, Shown, Refutes, setups}
+use Rattle.paper.specs.File.{registers, networkOf}
+use Rattle.paper.specs.Table.{Given}
+use Rattle.paper.specs.Refusals.{Accepted, refusals, NoPeriod, NoneToCeiling}
+
+-- ---- a network in the paper's terms, and its file
+
+-- of a register (setup, hold, low, high), of a path (from, to, dmin, dmax)
+abbrev pub Fields : Type 0
+Fields = ℤ × ℤ × ℤ × ℤ
+
+-- n and m are the numbers of its registers and of its paths
+pub record Written : Type 0 where
+  pub floor : ℤ
+  pub ceiling : ℤ
+  pub u : ℤ
+  pub registers : List Fields
+  pub paths : List Fields
+
+-- "Every record begins with a two-byte mark; then numbers of four bytes each"
+abbrev pub records : ℕ → ℕ → List Fields → List ℕ
+records a b [] = []
+records a b (r ∷ l) = a ∷ b ∷ (four (r .0) ++ four (r .1) ++ four (r .2) ++ four (r .3) ++ records a b l)
+
+unfoldable pub fileOf : Written → List ℕ
+fileOf w =
+    78 ∷ 87
+    ∷ (four (pos (length (w .registers)))
+    ++ four (pos (length (w .paths)))
+    ++ four (w .floor)
+    ++ four (w .ceiling)
+    ++ four (w .u)
+    ++ records 82 71 (w .registers)
+    ++ records 80 84 (w .paths))
+
+-- ---- what comes of it
+
+pub data Expected : Type 0 where
+  answered : (period : ℕ) (latencies : List ℤ) (loop : List Rule) → Expected
+  refused-8 : (loop : List Rule) → Expected
+  refused-9 : (loop : List Rule) → Expected
+
+pub record Case : Type 0 where
+  pub network : Written
+  pub result : Expected
+
+abbrev pub Comes : Network → Expected → Type 0
+Comes N (answered P latencies loop) =
+    (length latencies ≡ N .registers) × Answer N P (λ i. getD latencies i (pos 0)) × Shown N P loop
+Comes N (refused-8 loop) = NoPeriod N × (setups loop ≡ 0) × ((P : ℕ) → Refutes N P loop)
+Comes N (refused-9 loop) = NoneToCeiling N × Refutes N (N .ceiling) loop
+
+abbrev pub numberOf : Expected → ℕ
+numberOf (answered P latencies loop) = 0
+numberOf (refused-8 loop) = 8
+numberOf (refused-9 loop) = 9
+
+-- The row's file is accepted; where the output has room, the row's number is returned; and the definitions give its network what the row
+-- says.
+pub record Worked (c : Case) : Type 0 where
+  pub accepted : Accepted (fileOf (c .network))
+  pub given : (room : ℕ) → 14 + 16 * registers (fileOf (c .network)) ≤ room
+      → Given (refusals (fileOf (c .network)) room) (numberOf (c .result)) 0
+  pub comes : Comes (networkOf (fileOf (c .network))) (c .result)
+
+-- ---- the table
+
+-- "Network A: n = 3, floor 1, ceiling 100, u 0; setup 1, hold 1 for each register; windows -10 to 10 for 1 and 2. Paths (from, to, dmin,
+-- dmax): 0: (0, 1, 2, 9); 1: (1, 2, 2, 3); 2: (2, 0, 2, 6)."
+abbrev pub networkA : ℕ → ℕ → ℕ → Written
+networkA floor ceiling u =
+    record {
+      floor = pos floor;
+      ceiling = pos ceiling;
+      u = pos u;
+      registers =
+          (pos 1, pos 1, pos 0, pos 0)
+          ∷ (pos 1, pos 1, negℤ (pos 10), pos 10)
+          ∷ (pos 1, pos 1, negℤ (pos 10), pos 10)
+          ∷ [];
+      paths =
+          (pos 0, pos 1, pos 2, pos 9)
+          ∷ (pos 1, pos 2, pos 2, pos 3)
+          ∷ (pos 2, pos 0, pos 2, pos 6)
+          ∷ [];
+    }
+
+-- "Network D: n = 2, floor 1, ceiling 100, u 0, all setup and hold 0, window -10 to 10. Paths (0, 1, 5, 10) and (1, 0, 5, 5)."
+abbrev pub networkD : ℤ → ℤ → Written
+networkD low high =
+    record {
+      floor = pos 1;
+      ceiling = pos 100;
+      u = pos 0;
+      registers = (pos 0, pos 0, pos 0, pos 0) ∷ (pos 0, pos 0, low, high) ∷ [];
+      paths = (pos 0, pos 1, pos 5, pos 10) ∷ (pos 1, pos 0, pos 5, pos 5) ∷ [];
+    }
+
+-- "Where B or F names no floor, ceiling, u, setup or hold, these are 1, 100, 0, 0 and 0.": the host alone
+abbrev pub hostAlone : ℤ → List Fields → Written
+hostAlone hold paths =
+    record {
+      floor = pos 1;
+      ceiling = pos 100;
+      u = pos 0;
+      registers = (pos 0, hold, pos 0, pos 0) ∷ [];
+      paths = paths;
+    }
+
+unfoldable pub cases : List Case
+cases =
+    -- A: "period 9, latency 0 0, latency 1 1, latency 2 -1, loop 8, setup 0, hold 0"
+    record { network = networkA 1 100 0; result = answered 9 (pos 0 ∷ pos 1 ∷ negℤ (pos 1) ∷ []) (Setup 0 ∷ Hold 0 ∷ []) }
+    -- A2: "A, floor 9": "period 9, latencies 0, 1, -1, no loop"
+    ∷ record { network = networkA 9 100 0; result = answered 9 (pos 0 ∷ pos 1 ∷ negℤ (pos 1) ∷ []) [] }
+    -- A3: "A, floor 20": "period 20, latencies 0, -2, -1, no loop"
+    ∷ record { network = networkA 20 100 0; result = answered 20 (pos 0 ∷ negℤ (pos 2) ∷ negℤ (pos 1) ∷ []) [] }
+    -- A4: "A, ceiling 8": "refused 9, loop setup 0, hold 0"
+    ∷ record { network = networkA 1 8 0; result = refused-9 (Setup 0 ∷ Hold 0 ∷ []) }
+    -- A5: "A, ceiling 9": "as A"
+    ∷ record { network = networkA 1 9 0; result = answered 9 (pos 0 ∷ pos 1 ∷ negℤ (pos 1) ∷ []) (Setup 0 ∷ Hold 0 ∷ []) }
+    -- A6: "A, u 1": "period 11, latencies 0, 0, 0, loop setup 0, hold 0"
+    ∷ record { network = networkA 1 100 1; result = answered 11 (pos 0 ∷ pos 0 ∷ pos 0 ∷ []) (Setup 0 ∷ Hold 0 ∷ []) }
+    -- A7: "A, u 2": "refused 8, loop hold 2, hold 1, hold 0"
+    ∷ record { network = networkA 1 100 2; result = refused-8 (Hold 2 ∷ Hold 1 ∷ Hold 0 ∷ []) }
+    -- B: "n = 1, hold 1, setup 0, u 0, path (0, 0, 0, 5)": "refused 8, loop hold 0"
+    ∷ record { network = hostAlone (pos 1) ((pos 0, pos 0, pos 0, pos 5) ∷ []); result = refused-8 (Hold 0 ∷ []) }
+    -- D: "period 8, latencies 0, 2, loop setup 0, setup 1"
+    ∷ record { network = networkD (negℤ (pos 10)) (pos 10); result = answered 8 (pos 0 ∷ pos 2 ∷ []) (Setup 0 ∷ Setup 1 ∷ []) }
+    -- E: "D, window of 1 is 0 to 1": "period 9, latencies 0, 1, loop setup 0, high 1"
+    ∷ record { network = networkD (pos 0) (pos 1); result = answered 9 (pos 0 ∷ pos 1 ∷ []) (Setup 0 ∷ High 1 ∷ []) }
+    -- F: "n = 1, no paths, floor 1": "period 1, latency 0, no loop"
+    ∷ record { network = hostAlone (pos 0) []; result = answered 1 (pos 0 ∷ []) [] }
+    ∷ []

@@ -1,0 +1,32 @@
+-- Chains and loops of arrows, whatever an arrow is: all that is asked of one is the register that it leaves (`tail`) and the register
+-- that it reaches (`head`). The paper's arrows are its rules; the code's are places in its lists.
+use mathlib.Core.Path.{_≡_}
+use mathlib.Core.Logic.{_≢_}
+use mathlib.Core.List.{List, [], _∷_}
+use Prim.Native.Nat.{ℕ, _≤_}
+
+-- P holds of every member
+abbrev pub All : {E : Type 0} → (E → Type 0) → List E → Type 0
+All P [] = Unit {0}
+All P (e ∷ l) = P e × All P l
+
+module _ {E : Type 0} (tail head : E → ℕ) where
+  -- the first arrow leaves u, each later one leaves the register that the one before reaches, and the last reaches v
+  abbrev pub Chain : ℕ → List E → ℕ → Type 0
+  Chain u [] v = u ≡ v
+  Chain u (e ∷ l) v = (tail e ≡ u) × Chain (head e) l v
+
+  -- no two arrows leave one register
+  abbrev pub Once : List E → Type 0
+  Once [] = Unit {0}
+  Once (e ∷ l) = All (λ f. tail f ≢ tail e) l × Once l
+
+  -- "A loop is a closed chain of arrows that passes each register at most once; a self path gives a loop of one."
+  abbrev pub Loop : List E → Type 0
+  Loop [] = ⊥
+  Loop (e ∷ l) = Chain (tail e) (e ∷ l) (tail e) × Once (e ∷ l)
+
+  -- "starting with the arrow that leaves its lowest-numbered register"
+  abbrev pub Listed : List E → Type 0
+  Listed [] = Unit {0}
+  Listed (e ∷ l) = All (λ f. tail e ≤ tail f) l

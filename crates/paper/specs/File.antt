@@ -1,0 +1,109 @@
+-- The network file.
+--
+-- "Every record begins with a two-byte mark; then numbers of four bytes each, two's complement, low byte first.
+--  - Header `NW`: register count n, path count m, floor, ceiling, u. 22 bytes.
+--  - n records `RG`: setup, hold, low, high. 18 bytes each, register 0 first.
+--  - m records `PT`: from, to, dmin, dmax. 18 bytes each, path 0 first."
+use mathlib.Core.List.{List}
+use mathlib.Core.Bool.{Bool, _&&_, cond}
+use Prim.Native.Nat.{ℕ, _+_, _*_}
+use lib.IntN.{ℤ, pos, negsuc, _-ℤ_}
+use lib.Signed.{leZ}
+use lib.ListN.{length, getD}
+use lib.Dec.{leb, eqb}
+use Rattle.whole.specs.Four.{numberAt}
+use Rattle.paper.specs.Network.{Network}
+
+-- a number that counts, or names a register: the number itself, from 0 up
+abbrev pub natural : ℤ → ℕ
+natural (pos n) = n
+natural (negsuc n) = 0
+
+-- the letters a and b stand at place i
+unfoldable pub marked : List ℕ → ℕ → ℕ → ℕ → Bool
+marked f i a b = eqb (getD f i 0) a && eqb (getD f (i + 1) 0) b
+
+-- low ≤ z ≤ high
+unfoldable pub within : ℤ → ℤ → ℤ → Bool
+within low high z = leZ low z && leZ z high
+
+-- a register's window: both ends 0 for register 0
+unfoldable pub windowed : ℕ → ℤ → ℤ → Bool
+windowed i low high =
+    cond (eqb i 0)
+    (within (pos 0) (pos 0) low && within (pos 0) (pos 0) high)
+    (within (negsuc 999999) (pos 1000000) low && within low (pos 1000000) high)
+
+module _ (f : List ℕ) where
+  abbrev pub registers : ℕ
+  registers = natural (numberAt f 2)
+
+  abbrev pub paths : ℕ
+  paths = natural (numberAt f 6)
+
+  -- where the record of register i and the record of path p begin
+  abbrev pub registerPlace : ℕ → ℕ
+  registerPlace i = 22 + 18 * i
+
+  abbrev pub pathPlace : ℕ → ℕ
+  pathPlace p = 22 + 18 * (registers + p)
+
+  -- a whole header, with its mark
+  unfoldable pub headed : Bool
+  headed = leb 22 (length f) && marked f 0 78 87
+
+  -- | n           | 1 to 256                                                       |
+  -- | m           | 0 to 2,048                                                     |
+  unfoldable pub counted : Bool
+  counted = within (pos 1) (pos 256) (numberAt f 2) && within (pos 0) (pos 2048) (numberAt f 6)
+
+  -- "Nothing follows."
+  unfoldable pub sized : Bool
+  sized = eqb (length f) (22 + 18 * (registers + paths))
+
+  -- | floor       | 1 to 10,000,000                                                |
+  -- | ceiling     | floor to 10,000,000                                            |
+  -- | u           | 0 to 10,000                                                    |
+  unfoldable pub ranged : Bool
+  ranged =
+      within (pos 1) (pos 10000000) (numberAt f 10)
+      && within (numberAt f 10) (pos 10000000) (numberAt f 14)
+      && within (pos 0) (pos 10000) (numberAt f 18)
+
+  -- | setup, hold | -100,000 to 100,000                                            |
+  -- | low, high   | -1,000,000 to 1,000,000, low <= high; both 0 for register 0    |
+  unfoldable pub registerOk : ℕ → Bool
+  registerOk i =
+      marked f (registerPlace i) 82 71
+      && within (negsuc 99999) (pos 100000) (numberAt f (registerPlace i + 2))
+      && within (negsuc 99999) (pos 100000) (numberAt f (registerPlace i + 6))
+      && windowed i (numberAt f (registerPlace i + 10)) (numberAt f (registerPlace i + 14))
+
+  -- | from, to    | 0 to n - 1                                                     |
+  -- | dmin, dmax  | 0 <= dmin <= dmax <= 1,000,000                                 |
+  unfoldable pub pathOk : ℕ → Bool
+  pathOk p =
+      marked f (pathPlace p) 80 84
+      && within (pos 0) (pos registers -ℤ pos 1) (numberAt f (pathPlace p + 2))
+      && within (pos 0) (pos registers -ℤ pos 1) (numberAt f (pathPlace p + 6))
+      && leZ (pos 0) (numberAt f (pathPlace p + 10))
+      && within (numberAt f (pathPlace p + 10)) (pos 1000000) (numberAt f (pathPlace p + 14))
+
+  -- the network that the file means; today every path is charged the header's u
+  unfoldable pub networkOf : Network
+  networkOf =
+      record {
+        registers = registers;
+        paths = paths;
+        floor = natural (numberAt f 10);
+        ceiling = natural (numberAt f 14);
+        setup = λ i. numberAt f (registerPlace i + 2);
+        hold = λ i. numberAt f (registerPlace i + 6);
+        low = λ i. numberAt f (registerPlace i + 10);
+        high = λ i. numberAt f (registerPlace i + 14);
+        from = λ p. natural (numberAt f (pathPlace p + 2));
+        to = λ p. natural (numberAt f (pathPlace p + 6));
+        dmin = λ p. numberAt f (pathPlace p + 10);
+        dmax = λ p. numberAt f (pathPlace p + 14);
+        uncertainty = λ p. numberAt f 18;
+      }

@@ -1,0 +1,12 @@
+-- The paper as definitions, one file a topic, in the paper's order.
+pub mod Network
+pub mod Rules
+pub mod Chains
+pub mod Schedule
+pub mod File
+pub mod Table
+pub mod Refusals
+pub mod Output
+pub mod Outcome
+pub mod Question
+pub mod Cases

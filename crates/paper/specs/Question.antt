@@ -1,0 +1,69 @@
+-- The rule question.
+--
+-- "A second public question names a file, a period, a rule by kind and number, and the latencies at the arrow's tail and head, and says
+-- whether the rule is met. It answers 1 to 6 as above, then 10 if the period is outside 1 to 10,000,000, a latency is outside -1,000,000
+-- to 1,000,000, or the rule doesn't exist. [..] Yes is given exactly when the named rule's inequality holds. Yes and no both come with
+-- number 0 and place 0; a refusal carries neither."
+use mathlib.Core.Path.{_≡_}
+use mathlib.Core.List.{List, [], _∷_, _++_}
+use mathlib.Core.Bool.{true}
+use Prim.Native.Nat.{ℕ}
+use lib.IntN.{ℤ, pos, negsuc}
+use Rattle.paper.specs.declared.Reply.{Reply}
+use Rattle.paper.specs.declared.Reply.the-variants as reply
+use Rattle.paper.specs.Network.{Network}
+use Rattle.paper.specs.Rules.{Rule, kind, number, Exists, Met}
+use Rattle.paper.specs.File.{natural, within, networkOf}
+use Rattle.paper.specs.Table.{Row, When, Given}
+use Rattle.paper.specs.Refusals.{faults}
+use Rattle.paper.specs.Outcome.{faultNumber, faultPlace}
+
+-- a question: the period, the rule's kind and number, the latencies at the arrow's tail and head
+pub record Question : Type 0 where
+  pub period : ℤ
+  pub kind-asked : ℤ
+  pub number-asked : ℤ
+  pub tail-latency : ℤ
+  pub head-latency : ℤ
+
+module _ (N : Network) (q : Question) where
+  -- the rule that is asked for
+  pub record Asked (r : Rule) : Type 0 where
+    pub of-kind : q .kind-asked ≡ pos (kind r)
+    pub of-number : q .number-asked ≡ pos (number r)
+    pub exists : Exists N r
+
+  pub record InRange : Type 0 where
+    pub period-within : within (pos 1) (pos 10000000) (q .period) ≡ true
+    pub tail-within : within (negsuc 999999) (pos 1000000) (q .tail-latency) ≡ true
+    pub head-within : within (negsuc 999999) (pos 1000000) (q .head-latency) ≡ true
+    pub rule : (r : Rule) × Asked r
+
+  abbrev pub MetAsked : Rule → Type 0
+  MetAsked r = Met N (natural (q .period)) r (q .tail-latency) (q .head-latency)
+
+abbrev pub questionRefusals : List ℕ → Question → List Row
+questionRefusals f q = faults f ++ record { number = 10; applies = When (InRange (networkOf f) q → ⊥) } ∷ []
+
+abbrev pub replyNumber : Reply → ℕ
+replyNumber reply.Yes = 0
+replyNumber reply.No = 0
+replyNumber (reply.File x) = faultNumber x
+replyNumber reply.Question = 10
+
+abbrev pub replyPlace : Reply → ℕ
+replyPlace reply.Yes = 0
+replyPlace reply.No = 0
+replyPlace (reply.File x) = faultPlace x
+replyPlace reply.Question = 0
+
+abbrev pub Says : Network → Question → Reply → Type 0
+Says N q reply.Yes = (r : Rule) × Asked N q r × MetAsked N q r
+Says N q reply.No = (r : Rule) × Asked N q r × (MetAsked N q r → ⊥)
+Says N q (reply.File x) = Unit {0}
+Says N q reply.Question = Unit {0}
+
+-- The rule question, lent the file f, may return o.
+pub record Answers (f : List ℕ) (q : Question) (o : Reply) : Type 0 where
+  pub given : Given (questionRefusals f q) (replyNumber o) (replyPlace o)
+  pub says : Says (networkOf f) q o

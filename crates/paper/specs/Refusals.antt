@@ -1,0 +1,53 @@
+-- Numbers returned, 1 to 9.
+use mathlib.Core.List.{List, [], _∷_, _++_}
+use Prim.Native.Nat.{ℕ, _+_, _*_, _≤_}
+use lib.IntN.{ℤ}
+use lib.Dec.{leb}
+use Rattle.paper.specs.Network.{Network}
+use Rattle.paper.specs.Schedule.{Schedule}
+use Rattle.paper.specs.File.{headed, counted, sized, ranged, registers, paths, registerOk, pathOk, networkOf}
+use Rattle.paper.specs.Table.{Row, Fails, Lowest, When, Clear}
+
+-- some latencies are a schedule at P
+abbrev pub Scheduled : Network → ℕ → Type 0
+Scheduled N P = (x : ℕ → ℤ) × Schedule N P x
+
+-- "no schedule at any whole period, however large"
+abbrev pub NoPeriod : Network → Type 0
+NoPeriod N = (P : ℕ) → 1 ≤ P → Scheduled N P → ⊥
+
+-- "a schedule at some period, none up to the ceiling"
+pub record NoneToCeiling (N : Network) : Type 0 where
+  pub some : (P : ℕ) × (1 ≤ P) × Scheduled N P
+  pub none : (P : ℕ) → 1 ≤ P → P ≤ N .ceiling → Scheduled N P → ⊥
+
+-- | 1 | under 22 bytes, or first two not `NW`        | 0                       |
+-- | 2 | n or m out of range                          | 0                       |
+-- | 3 | length is not 22 + 18(n + m)                 | 0                       |
+-- | 4 | floor, ceiling or u out of range             | 0                       |
+-- | 5 | a register record has a wrong mark or field  | lowest such register    |
+-- | 6 | a path record has a wrong mark or field      | lowest such path        |
+abbrev pub faults : List ℕ → List Row
+faults f =
+    record { number = 1; applies = Fails (headed f) }
+    ∷ record { number = 2; applies = Fails (counted f) }
+    ∷ record { number = 3; applies = Fails (sized f) }
+    ∷ record { number = 4; applies = Fails (ranged f) }
+    ∷ record { number = 5; applies = Lowest (registerOk f) (registers f) }
+    ∷ record { number = 6; applies = Lowest (pathOk f) (paths f) }
+    ∷ []
+
+-- "A file, or its network, is accepted when no refusal that comes before 7 applies."
+abbrev pub Accepted : List ℕ → Type 0
+Accepted f = Clear (faults f)
+
+-- | 7 | room below 14 + 16n                            | 0 |
+-- | 8 | no schedule at any whole period, however large | 0 |
+-- | 9 | a schedule at some period, none up to the ceiling | 0 |
+abbrev pub refusals : List ℕ → ℕ → List Row
+refusals f room =
+    faults f
+    ++ record { number = 7; applies = Fails (leb (14 + 16 * registers f) room) }
+    ∷ record { number = 8; applies = When (NoPeriod (networkOf f)) }
+    ∷ record { number = 9; applies = When (NoneToCeiling (networkOf f)) }
+    ∷ []

@@ -1,0 +1,88 @@
+-- The four rules.
+--
+-- | kind  | number | rule                             | arrow  | amount             |
+-- | setup | 0      | x_i + dmax + s_j + u <= x_j + P  | i to j | dmax + s_j + u - P |
+-- | hold  | 1      | x_i + dmin >= x_j + h_j + u      | j to i | h_j + u - dmin     |
+-- | low   | 2      | x_i >= low_i, i from 1           | 0 to i | low_i              |
+-- | high  | 3      | x_i <= high_i, i from 1          | i to 0 | -high_i            |
+use Prim.Native.Nat.{ℕ, _<_}
+use lib.IntN.{ℤ, pos, negℤ, _+ℤ_, _-ℤ_}
+use lib.Signed.{_≤ℤ_}
+use Rattle.paper.specs.Network.{Network}
+
+-- "Setup and hold are named by the path's number, low and high by the register's."
+pub data Rule : Type 0 where
+  Setup : ℕ → Rule
+  Hold : ℕ → Rule
+  Low : ℕ → Rule
+  High : ℕ → Rule
+
+abbrev pub kind : Rule → ℕ
+kind (Setup p) = 0
+kind (Hold p) = 1
+kind (Low i) = 2
+kind (High i) = 3
+
+abbrev pub number : Rule → ℕ
+number (Setup p) = p
+number (Hold p) = p
+number (Low i) = i
+number (High i) = i
+
+infix 50 _≥ℤ_
+abbrev pub _≥ℤ_ : ℤ → ℤ → Type 0
+a ≥ℤ b = b ≤ℤ a
+
+module _ (N : Network) where
+  -- "The host has no low or high rule."
+  abbrev pub Exists : Rule → Type 0
+  Exists (Setup p) = p < N .paths
+  Exists (Hold p) = p < N .paths
+  Exists (Low i) = (0 < i) × (i < N .registers)
+  Exists (High i) = (0 < i) × (i < N .registers)
+
+  -- the rule, as the table's third column writes it
+  abbrev pub Holds : ℕ → (ℕ → ℤ) → Rule → Type 0
+  Holds P x (Setup p) =
+      (x (N .from p) +ℤ N .dmax p +ℤ N .setup (N .to p) +ℤ N .uncertainty p) ≤ℤ (x (N .to p) +ℤ pos P)
+  Holds P x (Hold p) =
+      (x (N .from p) +ℤ N .dmin p) ≥ℤ (x (N .to p) +ℤ N .hold (N .to p) +ℤ N .uncertainty p)
+  Holds P x (Low i) = x i ≥ℤ N .low i
+  Holds P x (High i) = x i ≤ℤ N .high i
+
+  -- its arrow
+  abbrev pub tail : Rule → ℕ
+  tail (Setup p) = N .from p
+  tail (Hold p) = N .to p
+  tail (Low i) = 0
+  tail (High i) = i
+
+  abbrev pub head : Rule → ℕ
+  head (Setup p) = N .to p
+  head (Hold p) = N .from p
+  head (Low i) = i
+  head (High i) = 0
+
+  -- its amount without the P term, and its amount
+  abbrev pub base : Rule → ℤ
+  base (Setup p) = N .dmax p +ℤ N .setup (N .to p) +ℤ N .uncertainty p
+  base (Hold p) = N .hold (N .to p) +ℤ N .uncertainty p -ℤ N .dmin p
+  base (Low i) = N .low i
+  base (High i) = negℤ (N .high i)
+
+  abbrev pub amount : ℕ → Rule → ℤ
+  amount P (Setup p) = base (Setup p) -ℤ pos P
+  amount P (Hold p) = base (Hold p)
+  amount P (Low i) = base (Low i)
+  amount P (High i) = base (High i)
+
+  -- By how much the rule is met, with latency a at the arrow's tail and b at its head: the greater side of the third column less the
+  -- other. Low and high do not read the host's latency.
+  abbrev pub slack : ℕ → Rule → ℤ → ℤ → ℤ
+  slack P (Setup p) a b = (b +ℤ pos P) -ℤ (a +ℤ N .dmax p +ℤ N .setup (N .to p) +ℤ N .uncertainty p)
+  slack P (Hold p) a b = (b +ℤ N .dmin p) -ℤ (a +ℤ N .hold (N .to p) +ℤ N .uncertainty p)
+  slack P (Low i) a b = b -ℤ N .low i
+  slack P (High i) a b = N .high i -ℤ a
+
+  abbrev pub Met : ℕ → Rule → ℤ → ℤ → Type 0
+  Met P r a b = pos 0 ≤ℤ slack P r a b
