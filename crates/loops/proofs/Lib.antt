@@ -19,3 +19,11 @@ pub mod Gap
 pub mod Ends
 pub mod Relax
 pub mod Examples
+pub mod Places
+pub mod Renamed
+pub mod Greatest
+pub mod Transfer
+pub mod Feasible
+pub mod NeedLaws
+pub mod Climb
+pub mod Theorems

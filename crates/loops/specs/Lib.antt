@@ -1,3 +1,5 @@
 pub mod Arrows
 pub mod Model
 pub mod Forest
+pub mod Layout
+pub mod Needs

@@ -1,0 +1,40 @@
+-- Where an accepted file has its records, and that its header's floor and ceiling are the network's.
+use mathlib.Core.Path.{_≡_, sym}
+use mathlib.Core.List.{List}
+use Prim.Native.Nat.{ℕ, _+_, _*_, _≤_, _<_}
+use native.Mathlib.Omega.{arith}
+use lib.IntN.{pos}
+use lib.ListN.{length}
+use Rattle.whole.proofs.Lin.{lin}
+use Rattle.whole.specs.Four.{numberAt}
+use Rattle.paper.specs.File.{ranged, registerPlace, networkOf}
+use Rattle.paper.specs.Refusals.{Accepted}
+use Rattle.paper.proofs.Legal.{passes, accepted-length, ranges-passed, natural-is}
+
+module _ (f : List ℕ) (a : Accepted f) where
+  pub header-inside : 22 ≤ length f
+  header-inside = let l = accepted-length f a in omega arith
+
+  pub register-inside : (i : ℕ) → i < networkOf f .registers → registerPlace f i + 18 ≤ length f
+  unfolding networkOf
+  register-inside i h = let l = accepted-length f a in omega arith
+
+  -- the place as the code finds it, by the count of registers that it has at hand
+  pub path-inside : (n p : ℕ) → n ≡ networkOf f .registers → p < networkOf f .paths → 22 + 18 * (n + p) + 18 ≤ length f
+  unfolding networkOf
+  path-inside n p e h = let l = accepted-length f a in omega arith
+
+  pub floor-is : numberAt f 10 ≡ pos (networkOf f .floor)
+  unfolding networkOf
+  floor-is =
+      let r = ranges-passed f (passes (ranged f) (a .1 .1 .1 .0)) in
+      let b = r .in-floor .from in
+      sym (natural-is _ (omega lin))
+
+  pub ceiling-is : numberAt f 14 ≡ pos (networkOf f .ceiling)
+  unfolding networkOf
+  ceiling-is =
+      let r = ranges-passed f (passes (ranged f) (a .1 .1 .1 .0)) in
+      let b = r .in-floor .from in
+      let t = r .in-ceiling .from in
+      sym (natural-is _ (omega lin))

@@ -1,0 +1,52 @@
+// The records of an accepted file, by value. What is read lies in its range: proofs/Ranges.antt says so of each field.
+ghost use mathlib.Core.Path.{_≡_};
+ghost use Prim.Native.Nat.{_<_};
+ghost use Rattle.paper.specs.File.{networkOf};
+ghost use Rattle.paper.specs.Refusals.{Accepted};
+ghost use Rattle.network.specs.Records.{IsHeader, IsRegister, IsPath};
+use crate::Header;
+use crate::Path;
+use crate::Register;
+use crate::field;
+use paper::Delay;
+use paper::Latency;
+
+pub fn header(file: &[u8]) -> Header
+    requires { ⌜ Accepted (now file) ⌝ }
+    ensures { λ r. ⌜ IsHeader (networkOf (now (file .entry))) r ⌝ }
+{
+    Header {
+        registers: field::count(file, 2),
+        paths: field::count(file, 6),
+        floor: whole::number(file, 10),
+        ceiling: whole::number(file, 14),
+    }
+}
+
+pub fn register(file: &[u8], i: usize) -> Register
+    requires { ⌜ Accepted (now file) × (i < networkOf (now file) .registers) ⌝ }
+    ensures { λ r. ⌜ IsRegister (networkOf (now (file .entry))) i r ⌝ }
+{
+    let at = 22 + 18 * i;
+    Register {
+        setup: Delay(whole::number(file, at + 2)),
+        hold: Delay(whole::number(file, at + 6)),
+        low: Latency(whole::number(file, at + 10)),
+        high: Latency(whole::number(file, at + 14)),
+    }
+}
+
+// The caller has the count n of registers at hand, by which the place of a path's record is found.
+pub fn path(file: &[u8], n: usize, p: usize) -> Path
+    requires { ⌜ Accepted (now file) × (n ≡ networkOf (now file) .registers) × (p < networkOf (now file) .paths) ⌝ }
+    ensures { λ r. ⌜ IsPath (networkOf (now (file .entry))) p r ⌝ }
+{
+    let at = 22 + 18 * (n + p);
+    Path {
+        from: field::count(file, at + 2),
+        to: field::count(file, at + 6),
+        dmin: Delay(whole::number(file, at + 10)),
+        dmax: Delay(whole::number(file, at + 14)),
+        uncertainty: Delay(whole::number(file, 18)),
+    }
+}

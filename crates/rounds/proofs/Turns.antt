@@ -1,0 +1,153 @@
+-- What a turn of the relaxation rests on: a ready row lies in its range, what a round's preds give lies in a row's range, and each way that
+-- a turn ends is what its contract says.
+use mathlib.Core.Path.{_≡_, refl, sym, ap, _∙_}
+use mathlib.Core.Bool.{Bool, true, false}
+use mathlib.Core.List.{List}
+use Prim.Native.Nat.{ℕ, zero, suc, _+_, _-_, _*_, _≤_, _<_}
+use native.Mathlib.Omega.{arith}
+use native.Mathlib.Nat.{mul-le-mul-right}
+use lib.ListN.{length, getD}
+use lib.IntN.{ℤ, pos, negsuc, _+ℤ_}
+use lib.Signed.{_≤ℤ_}
+use Rattle.whole.proofs.Lin.{lin}
+use Rattle.loops.specs.Arrows.{Arrows, Least, amount, tail}
+use Rattle.loops.specs.Model.{Turn, at, pred, offered, round, rowAfter, predsAfter, allRooted, settled, worth, circleArrows, firstRow, firstPreds}
+use Rattle.loops.specs.Forest.{Tight, Deep, gap}
+use Rattle.loops.proofs.Grounded.{deep-short}
+use Rattle.loops.proofs.Worth.{worth-next, worth-root, worth-most, tight-settled, settled-most}
+use Rattle.loops.proofs.Kept.{round-grows, round-exact, round-fed, round-still, round-quiet, rested-least, tight-books}
+use Rattle.loops.proofs.Settle.{settled-tight, rows-from}
+use Rattle.loops.proofs.Ends.{gap-falls}
+use Rattle.loops.proofs.Relax.{circled-ends}
+use Rattle.loops.proofs.First.{first-tight, first-row-length, first-row-host, first-row-low}
+use Rattle.rounds.specs.Shape.{Shape, Row, InRow, Modest, turn}
+use Rattle.rounds.specs.Settling.{Gives, Fair, Settles}
+use Rattle.rounds.specs.Relaxation.{Bounded, Ready, Rests, Shows, Turned, Relaxed}
+
+module _ (Γ : Arrows) (shape : Shape Γ) where
+  modest-to : (e : ℕ) → e < Γ .count → amount Γ e ≤ℤ pos 4194304
+  modest-to e h = shape .modest e h .to
+
+  -- 255 times the greatest amount
+  range : (d : ℕ) → d < Γ .registers → d * 4194304 ≤ 1073741824
+  range d h = let f = shape .few in let l : d ≤ 256 = omega arith in omega (arith, mul-le-mul-right 4194304 l)
+
+  -- A tight row is what its preds give, so at most its depth times the greatest amount.
+  pub ready-row : (a : List ℤ) (p : List ℕ) → Ready Γ a p → Row (Γ .registers) a
+  ready-row a p r =
+      record {
+        long = r .tight .row-length;
+        in-row =
+            λ v b.
+            let most = settled-most Γ p (shape .sound) (r .tight .forest) 4194304 modest-to v b in
+            let is = ap (λ x. at x v) (tight-settled Γ a p (shape .sound) (r .tight)) in
+            let from = r .from v b in
+            let top = range (Γ .registers - 1) (let s = shape .sound .some in omega arith) in
+            record { from = from; to = omega lin };
+      }
+
+  module _ (a : List ℤ) (p : List ℕ) (r : Ready Γ a p) where
+    -- By depth: a register without a pred is the host, which was not raised; deeper, what the round left at v is what its pred asks of the row
+    -- that entered, which lies below what the round left at the tail, and so below what the preds give there.
+    deep-from : (d v : ℕ) → v < Γ .registers → Deep Γ (predsAfter Γ a p) d v → at (rowAfter Γ a p) v ≤ℤ worth Γ (predsAfter Γ a p) d v
+    deep-from zero zero b h =
+        let still = round-still Γ a p (shape .sound) (r .tight) 0 b h in
+        let host = r .tight .host in
+        let root = worth-root Γ (predsAfter Γ a p) 0 0 h in
+        omega lin
+    deep-from zero (suc v) b h = absurd (let f = round-fed Γ a p (shape .sound) (r .tight) (suc v) (omega arith) b in omega arith)
+    deep-from (suc d) v b h =
+        let u = tail Γ (pred (predsAfter Γ a p) v) in
+        let ub = shape .sound .leaves (pred (predsAfter Γ a p) v) (h .0) in
+        let up = deep-from d u ub (h .1) in
+        let grows = round-grows Γ a p (shape .sound) (r .tight) u ub in
+        let left = round-exact Γ a p (shape .sound) (r .tight) v b (h .0) in
+        let next = worth-next Γ (predsAfter Γ a p) d v (h .0) in
+        omega lin
+
+    -- so a row can hold whatever the preds give after a round
+    pub round-fair : Fair Γ (predsAfter Γ a p)
+    round-fair v z b g =
+        let up = deep-from (g .depth) v b (g .deep) in
+        let grows = round-grows Γ a p (shape .sound) (r .tight) v b in
+        let low = r .from v b in
+        let is = g .time in
+        let most = worth-most Γ (predsAfter Γ a p) 4194304 modest-to (g .depth) v in
+        let top = range (g .depth) (deep-short Γ (predsAfter Γ a p) (shape .sound) (g .depth) v b (g .deep)) in
+        record { from = omega lin; to = omega lin }
+
+    pub preds-long : length (predsAfter Γ a p) ≡ Γ .registers
+    preds-long = tight-books Γ a p (shape .sound) (r .tight) .preds-length
+
+    pub row-long : length (rowAfter Γ a p) ≡ Γ .registers
+    row-long = tight-books Γ a p (shape .sound) (r .tight) .row-length
+
+    -- nothing was raised
+    pub turned-rested : round Γ a p .raised ≡ false → Rests Γ (rowAfter Γ a p)
+    turned-rested q =
+        let same = round-quiet Γ a p (shape .sound) (r .tight) q .row-same in
+        record { long = row-long; least = rw same (rested-least Γ a p (shape .sound) (r .tight) q) }
+
+    -- the preds are a forest, and the row is settled
+    pub turned-settled : Bounded Γ → round Γ a p .raised ≡ true → allRooted Γ (predsAfter Γ a p) ≡ true
+        → Ready Γ (settled Γ (predsAfter Γ a p)) (predsAfter Γ a p) × (gap Γ 16777216 (settled Γ (predsAfter Γ a p)) < gap Γ 16777216 a)
+    turned-settled w q all = (
+      record {
+        tight = settled-tight Γ a p (shape .sound) (r .tight) all;
+        from = λ v b. let f = rows-from Γ a p (shape .sound) (r .tight) all v b in let g = r .from v b in omega lin;
+      },
+      gap-falls Γ 16777216 (shape .sound) w a p (r .tight) q all,
+    )
+
+    -- the preds hold a circle
+    pub turned-circled : allRooted Γ (predsAfter Γ a p) ≡ false → (allRooted Γ (predsAfter Γ a p) ≡ false) × Shows Γ (circleArrows Γ (predsAfter Γ a p))
+    turned-circled q =
+        let e = circled-ends Γ a p (shape .sound) (r .tight) q in
+        (q, record { contradicts = e .0; listed = e .1 })
+
+    -- the same of the row, the preds and the flag that the code holds after its round
+    module _ (b : List ℤ) (q : List ℕ) (raised : Bool) (is : turn b q raised ≡ round Γ a p) where
+      row-is : b ≡ rowAfter Γ a p
+      row-is = ap (λ t. t .row) is
+
+      preds-is : q ≡ predsAfter Γ a p
+      preds-is = ap (λ t. t .preds) is
+
+      flag-is : raised ≡ round Γ a p .raised
+      flag-is = ap (λ t. t .raised) is
+
+      pub after-fair : Fair Γ q
+      after-fair = rw preds-is round-fair
+
+      pub after-preds-long : length q ≡ Γ .registers
+      after-preds-long = rw preds-is preds-long
+
+      pub after-row-long : length b ≡ Γ .registers
+      after-row-long = rw row-is row-long
+
+      pub after-rested : raised ≡ false → Rests Γ b
+      after-rested h = rw row-is (turned-rested (sym flag-is ∙ h))
+
+      pub after-settled : (row : List ℤ) (t : Bool) → Bounded Γ → raised ≡ true → Settles Γ q row t → t ≡ true
+          → Ready Γ row q × (gap Γ 16777216 row < gap Γ 16777216 a)
+      after-settled row t w h s e =
+          rw (s .row-is e, preds-is) (turned-settled w (sym flag-is ∙ h) (ap (allRooted Γ) (sym preds-is) ∙ sym (s .answer) ∙ e))
+
+      pub after-circled : (row : List ℤ) (t : Bool) → Settles Γ q row t → t ≡ false → (allRooted Γ q ≡ false) × Shows Γ (circleArrows Γ q)
+      after-circled row t s e = rw preds-is (turned-circled (ap (allRooted Γ) (sym preds-is) ∙ sym (s .answer) ∙ e))
+
+  -- the first row
+  pub first-ready : Bounded Γ → Ready Γ (firstRow Γ) (firstPreds Γ 65535)
+  first-ready w =
+      record {
+        tight = first-tight Γ 16777216 65535 (shape .sound) w (let n = shape .named in omega arith);
+        from = from;
+      }
+    where
+      from : (v : ℕ) → v < Γ .registers → negsuc 16777215 ≤ℤ at (firstRow Γ) v
+      from zero b = let h = first-row-host Γ (shape .sound) in omega lin
+      from (suc v) b =
+          let e = first-row-low Γ (suc v) (omega arith) b in
+          let x = w .window (suc v) (omega arith) b .low-exists in
+          let m = shape .modest (suc v - 1) x .from in
+          omega lin

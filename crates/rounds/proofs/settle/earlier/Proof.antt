@@ -1,0 +1,22 @@
+use mathlib.Core.Path.{_∙_, ap₂}
+use lib.IntN.{_-ℤ_}
+use mir.Facts.{toZ-ofZ}
+use borrow.Author.Needs.{needs}
+use Rattle.rounds.proofs.settle.earlier.Statement.{statement}
+use Rattle.rounds.proofs.settle.earlier.Tie as tie
+use Rattle.rounds.proofs.settle.earlier.Reads as reads
+use Rattle.rounds.proofs.settle.earlier.Lts as lts
+use Rattle.paper.proofs.Latency.before.Reads as before-reads
+
+-- src/settle.rt:42:9
+before-requires : tie.Need-before-requires
+before-requires c κs = search needs
+
+-- src/settle.rt:38:1
+returns : tie.Need-returns
+returns c =
+    let k = c .before .before in
+    toZ-ofZ (search needs) ∙ c .before .before2 .ensures ∙ ap₂ _-ℤ_ (toZ-ofZ (k .fits .z)) (toZ-ofZ (k .fits .w))
+
+pub earlier-spec : {M : Type 1} → statement M
+earlier-spec = tie.close (tie.spec before-requires returns)

@@ -1,0 +1,198 @@
+// Settling: every register takes the time that its preds give it, so that a rise reaches all that hangs on it in the same round.
+ghost use mathlib.Core.Path.{_≡_};
+ghost use mathlib.Core.Bool.{true};
+ghost use Prim.Native.Nat.{ℕ, _≤_, _<_};
+ghost use lib.ListN.{length, getD};
+ghost use lib.IntN.{_+ℤ_, _-ℤ_};
+ghost use mir.Syntax.{w32, w64};
+ghost use mir.Val.{SFits};
+ghost use Rattle.loops.specs.Model.{allRooted, settled};
+ghost use Rattle.rounds.specs.Shape.{arrows, Shape};
+ghost use Rattle.rounds.specs.Settling.{Gives, Fair, Marked, Walked, Put, SettledOne, Settles};
+use paper::Delay;
+use paper::Latency;
+
+// What a walk back along the preds found: whether it came to an end, and the time that the preds give where it began.
+pub struct Walk {
+    pub found: bool,
+    pub time: i32,
+}
+
+// One more amount on a walk. The sum of a walk that goes round a circle leaves 32 bits, so it is kept in 64.
+fn further(sum: i64, w: i32) -> i64
+    requires { ⌜ SFits w64 (sum +ℤ w) ⌝ }
+    ensures { λ r. ⌜ r ≡ sum +ℤ w ⌝ }
+{
+    sum + w as i64
+}
+
+// The time at a walk's end and the amounts on the way.
+fn landed(x: i32, sum: i64) -> i32
+    requires { ⌜ (SFits w64 (x +ℤ sum)) × (SFits w32 (x +ℤ sum)) ⌝ }
+    ensures { λ r. ⌜ r ≡ x +ℤ sum ⌝ }
+{
+    (x as i64 + sum) as i32
+}
+
+fn earlier(z: i32, w: i32) -> i32
+    requires { ⌜ SFits w32 (z -ℤ w) ⌝ }
+    ensures { λ r. ⌜ r ≡ z -ℤ w ⌝ }
+{
+    let x = Latency(z).before(Delay(w));
+    x.0
+}
+
+// Follows the preds from s to a marked register or to one without a pred, adding amounts. It writes nothing.
+fn reach(
+    tail: &[u16],
+    head: &[u16],
+    amount: &[i32],
+    n: usize,
+    m: usize,
+    p: &[u16],
+    row: &[i32],
+    marks: &[u8],
+    s: usize,
+) -> Walk
+    requires { ⌜ Shape (arrows n m (now tail) (now head) (now amount)) ⌝ }
+    requires { ⌜ (length (now p) ≡ n) × (s < n) ⌝ }
+    requires { ⌜ Marked (arrows n m (now tail) (now head) (now amount)) (now p) (now row) (now marks) ⌝ }
+    requires { ⌜ Fair (arrows n m (now tail) (now head) (now amount)) (now p) ⌝ }
+    ensures { λ r. ⌜ Walked (arrows n m (now (tail .entry)) (now (head .entry)) (now (amount .entry))) (now (p .entry)) s (r .found) (r .time) ⌝ }
+{
+    let mut v = s;
+    let mut sum: i64 = 0;
+    let mut k = 0;
+    while k <= n {
+        if marks[v] == 1 {
+            return Walk {
+                found: true,
+                time: landed(row[v], sum),
+            };
+        }
+        let e = p[v] as usize;
+        if m <= e {
+            return Walk {
+                found: true,
+                time: landed(0, sum),
+            };
+        }
+        sum = further(sum, amount[e]);
+        v = tail[e] as usize;
+        k += 1;
+    }
+    Walk {
+        found: false,
+        time: 0,
+    }
+}
+
+// Walks the same way again: each register takes its time and its mark, up to one that has them.
+fn put(
+    tail: &[u16],
+    head: &[u16],
+    amount: &[i32],
+    n: usize,
+    m: usize,
+    p: &[u16],
+    row: &mut [i32],
+    marks: &mut [u8],
+    s: usize,
+    time: i32,
+)
+    requires { ⌜ Shape (arrows n m (now tail) (now head) (now amount)) ⌝ }
+    requires { ⌜ (length (now p) ≡ n) × (s < n) ⌝ }
+    requires { ⌜ Marked (arrows n m (now tail) (now head) (now amount)) (now p) (now row) (now marks) ⌝ }
+    requires { ⌜ Fair (arrows n m (now tail) (now head) (now amount)) (now p) ⌝ }
+    requires { ⌜ Gives (arrows n m (now tail) (now head) (now amount)) (now p) s time ⌝ }
+    ensures { λ _. ⌜ Put (arrows n m (now (tail .entry)) (now (head .entry)) (now (amount .entry))) (now (p .entry)) s (now (row .entry)) (now (row .exit)) (now (marks .entry)) (now (marks .exit)) ⌝ }
+{
+    let mut v = s;
+    let mut z = time;
+    let mut k = 0;
+    while k <= n {
+        if marks[v] == 1 {
+            return;
+        }
+        row[v] = z;
+        marks[v] = 1;
+        let e = p[v] as usize;
+        if m <= e {
+            return;
+        }
+        z = earlier(z, amount[e]);
+        v = tail[e] as usize;
+        k += 1;
+    }
+}
+
+// One register: where it has no mark yet, both walks. Answers whether it is grounded.
+fn settle_one(
+    tail: &[u16],
+    head: &[u16],
+    amount: &[i32],
+    n: usize,
+    m: usize,
+    p: &[u16],
+    row: &mut [i32],
+    marks: &mut [u8],
+    s: usize,
+) -> bool
+    requires { ⌜ Shape (arrows n m (now tail) (now head) (now amount)) ⌝ }
+    requires { ⌜ (length (now p) ≡ n) × (s < n) ⌝ }
+    requires { ⌜ Marked (arrows n m (now tail) (now head) (now amount)) (now p) (now row) (now marks) ⌝ }
+    requires { ⌜ Fair (arrows n m (now tail) (now head) (now amount)) (now p) ⌝ }
+    ensures { λ r. ⌜ SettledOne (arrows n m (now (tail .entry)) (now (head .entry)) (now (amount .entry))) (now (p .entry)) s (now (row .entry)) (now (row .exit)) (now (marks .entry)) (now (marks .exit)) r ⌝ }
+{
+    let w = reach(tail, head, amount, n, m, p, row, marks, s);
+    if w.found {
+        put(tail, head, amount, n, m, p, row, marks, s, w.time);
+        return true;
+    }
+    false
+}
+
+// All registers, one after another. Answers whether every register is grounded.
+fn settle_all(
+    tail: &[u16],
+    head: &[u16],
+    amount: &[i32],
+    n: usize,
+    m: usize,
+    p: &[u16],
+    row: &mut [i32],
+    marks: &mut [u8],
+) -> bool
+    requires { ⌜ Shape (arrows n m (now tail) (now head) (now amount)) ⌝ }
+    requires { ⌜ (length (now p) ≡ n) × (length (now row) ≡ n) × (n ≤ length (now marks)) × ((v : ℕ) → getD (now marks) v 0 ≡ 0) ⌝ }
+    requires { ⌜ Fair (arrows n m (now tail) (now head) (now amount)) (now p) ⌝ }
+    ensures { λ r. ⌜ Settles (arrows n m (now (tail .entry)) (now (head .entry)) (now (amount .entry))) (now (p .entry)) (now (row .exit)) r ⌝ }
+{
+    let mut s = 0;
+    while s < n {
+        if !settle_one(tail, head, amount, n, m, p, row, marks, s) {
+            return false;
+        }
+        s += 1;
+    }
+    true
+}
+
+// Settles the row that a round has just written. Where some register is not grounded it answers no, and the row is given up.
+pub fn settle(
+    tail: &[u16],
+    head: &[u16],
+    amount: &[i32],
+    n: usize,
+    m: usize,
+    p: &[u16],
+    row: &mut [i32],
+) -> bool
+    requires { ⌜ Shape (arrows n m (now tail) (now head) (now amount)) ⌝ }
+    requires { ⌜ (length (now p) ≡ n) × (length (now row) ≡ n) ⌝ }
+    requires { ⌜ Fair (arrows n m (now tail) (now head) (now amount)) (now p) ⌝ }
+    ensures { λ r. ⌜ Settles (arrows n m (now (tail .entry)) (now (head .entry)) (now (amount .entry))) (now (p .entry)) (now (row .exit)) r ⌝ }
+{
+    let mut marks = [0u8; 256];
+    settle_all(tail, head, amount, n, m, p, row, &mut marks)
+}
