@@ -1,0 +1,48 @@
+-- `answer::record::put_latency` meets its contract: the two marks and the four bytes of the number are one record.
+use mathlib.Core.Path.{_∙_}
+use Prim.Native.Nat.{_+_}
+use denote.Ref.{now}
+use lib.ListN.{length-set}
+use mir.Facts.{toZ-ofZ}
+use native.Mathlib.Omega.{arith}
+use Rattle.answer.proofs.Written.{latency-written, marks-long}
+use borrow.Author.Needs.{needs}
+use Rattle.answer.proofs.record.put_latency.Statement.{statement}
+use Rattle.answer.proofs.record.put_latency.Tie as tie
+
+slice-write-out : tie.Need-slice-write-out
+slice-write-out c = search needs
+
+add-out : tie.Need-add-out
+add-out c = search needs
+
+slice-write-out-2 : tie.Need-slice-write-out-2
+slice-write-out-2 c = simp length-set (omega arith)
+
+add-put-number : tie.Need-add-put-number
+add-put-number c = search needs
+
+put-number-requires : tie.Need-put-number-requires
+put-number-requires c κs = simp length-set (omega arith)
+
+same-length : tie.Need-same-length
+same-length c =
+    let a = c .before .before .before .before .before .args in
+    c .before .before .put-number .kept .0 ∙ marks-long (now (a .out)) (a .at) (a .at + 1) _ _
+
+returns : tie.Need-returns
+returns c =
+    let k = c .before .before .before .before .before in
+    latency-written (now (k .args .out)) _ (k .args .at) _ _ (c .before .before .put-number .ensures) (toZ-ofZ (k .fits .x))
+
+pub put-latency-spec : {M : Type 1} → statement M
+put-latency-spec =
+    tie.close
+    (tie.spec
+    slice-write-out
+    add-out
+    slice-write-out-2
+    add-put-number
+    put-number-requires
+    same-length
+    returns)

@@ -1,0 +1,106 @@
+-- No two different results satisfy the scheduler's contract, but for the choice of the loop that is shown. Rests on the laws of tables, by
+-- which there is one number and one place, and on the definition of the answer, by which there is one period and one row of latencies.
+use mathlib.Core.Path.{_≡_, refl, sym, _∙_}
+use mathlib.Core.List.{List, [], _∷_}
+use Prim.Native.Nat.{ℕ, zero, suc, _<_}
+use native.Mathlib.Omega.{arith}
+use lib.IntN.{ℤ}
+use Rattle.whole.proofs.Lin.{lin}
+use Rattle.paper.specs.declared.Outcome.{Outcome}
+use Rattle.paper.specs.declared.Outcome.the-variants as outcome
+use Rattle.paper.specs.declared.Reply.{Reply}
+use Rattle.paper.specs.Network.{Network}
+use Rattle.paper.specs.Rules.{Rule}
+use Rattle.paper.specs.Schedule.{Answer, Shown}
+use Rattle.paper.specs.File.{networkOf}
+use Rattle.paper.specs.Table.{Given}
+use Rattle.paper.specs.Refusals.{refusals}
+use Rattle.paper.specs.Output.{latencyRecords, Answered}
+use Rattle.paper.specs.Outcome.{Left, Result}
+use Rattle.paper.specs.Question.{Question, Answers}
+use Rattle.paper.proofs.TableLaws.{given-one, refusals-one-place, outcome-one, reply-one}
+use Rattle.skew.specs.Same.{SameAnswer, SameButLoop}
+
+-- ---- one number and one place
+
+-- "The lowest number that applies is returned.": of one file and one room, one number with one place
+pub number-unique : (f : List ℕ) (room : ℕ) {n m p q : ℕ} → Given (refusals f room) n p → Given (refusals f room) m q → (n ≡ m) × (p ≡ q)
+number-unique f room g h = given-one (refusals f room) (refusals-one-place f room) _ _ _ _ g h
+
+-- ---- one answer
+
+-- of two answers, neither has the longer period, for the other's would be a shorter one with a schedule
+not-longer : {N : Network} {P Q : ℕ} {x y : ℕ → ℤ} → Answer N P x → Answer N Q y → P < Q → ⊥
+not-longer {P = P} {x = x} a b h = b .smallest P (a .from-floor) h x (a .schedule)
+
+-- "The answer is the smallest whole P from floor to ceiling that has a schedule, with the smallest latency each register has over all
+-- schedules at that P.": one period, and one latency for each register
+pub answer-unique : {N : Network} {P Q : ℕ} {x y : ℕ → ℤ} → Answer N P x → Answer N Q y → (P ≡ Q) × ((i : ℕ) → i < N .registers → x i ≡ y i)
+answer-unique {P = P} {Q} {x} {y} a b =
+    let longer = not-longer a b in
+    let shorter = not-longer b a in
+    let one : P ≡ Q = omega arith in (
+      one,
+      λ i h.
+          let under = a .least y (rw one (b .schedule)) i h in
+          let over = b .least x (rw (← one) (a .schedule)) i h in
+          omega lin,
+    )
+
+-- the records of the first n registers hold nothing but the latencies of these
+pub records-unique : (x y : ℕ → ℤ) (n : ℕ) → ((i : ℕ) → i < n → x i ≡ y i) → latencyRecords x n ≡ latencyRecords y n
+records-unique x y zero e = refl
+records-unique x y (suc n) e =
+    let rest = records-unique x y n (λ i h. e i (omega arith)) in
+    let last = e n (omega arith) in
+    cc
+
+-- "At the floor there is no loop"
+pub floor-no-loop : (N : Network) (P : ℕ) (l : List Rule) → Shown N P l → P ≡ N .floor → l ≡ []
+floor-no-loop N P [] s e = refl
+floor-no-loop N P (r ∷ l) s e = absurd (omega (arith, s .0))
+
+-- ---- one output
+
+same-answer : (N : Network) (before after after′ : List ℕ) (a : Answered N before after) (b : Answered N before after′) → SameAnswer N before after after′ a b
+same-answer N before after after′ a b =
+    record {
+      one-period = one .0;
+      one-latency = one .1;
+      but-loop = but-loop;
+      at-floor = λ e. let l = none e in let m = none′ e in (l, m, but-loop (l ∙ sym m));
+    }
+  where
+    one : (a .period ≡ b .period) × ((i : ℕ) → i < N .registers → a .latency i ≡ b .latency i)
+    one = answer-unique (a .answer) (b .answer)
+
+    but-loop : a .loop ≡ b .loop → after ≡ after′
+    but-loop e =
+        let p = one .0 in
+        let l = records-unique (a .latency) (b .latency) (N .registers) (one .1) in
+        cc (a .bytes, b .bytes)
+
+    none : a .period ≡ N .floor → a .loop ≡ []
+    none e = floor-no-loop N (a .period) (a .loop) (a .shown) e
+
+    none′ : a .period ≡ N .floor → b .loop ≡ []
+    none′ e = floor-no-loop N (b .period) (b .loop) (b .shown) (sym (one .0) ∙ e)
+
+left-unique : (f before : List ℕ) (o : Outcome) (after after′ : List ℕ) → Left f o before after → Left f o before after′ → SameButLoop f before o after after′
+left-unique f before outcome.Answered after after′ l m = same-answer (networkOf f) before after after′
+left-unique f before (outcome.File x) after after′ l m = l ∙ sym m
+left-unique f before outcome.Room after after′ l m = l ∙ sym m
+left-unique f before outcome.NoPeriod after after′ l m = λ a b e. cc (a .bytes, b .bytes)
+left-unique f before outcome.NoneToCeiling after after′ l m = λ a b e. cc (a .bytes, b .bytes)
+
+-- Each refusal has one number and one place, and the paper fixes every byte of the output after it, save which loop is shown. An answer has
+-- one period and one row of latencies, and the paper fixes its bytes likewise.
+pub schedule-unique : (f before : List ℕ) {after after′ : List ℕ} {o o′ : Outcome} → Result f before o after → Result f before o′ after′
+    → (o ≡ o′) × SameButLoop f before o after after′
+schedule-unique f before {after} {after′} {o} {o′} r s =
+    let one = outcome-one f before after after′ o o′ r s in
+    (one, left-unique f before o after after′ (r .output) (rw one (s .output)))
+
+-- The rule question has no output, and one reply.
+pub question-unique : {f : List ℕ} {q : Question} {o o′ : Reply} → Answers f q o → Answers f q o′ → o ≡ o′
+question-unique {f} {q} {o} {o′} a b = reply-one f q o o′ a b

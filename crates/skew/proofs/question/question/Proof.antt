@@ -1,0 +1,32 @@
+-- `skew::question::question` meets its contract: the file's own fault, or the reply to an accepted file.
+use borrow.Author.Needs.{needs}
+use Rattle.network.proofs.Verdicts.{judged-accepted}
+use Rattle.skew.proofs.Limits.{asked-read}
+use Rattle.skew.proofs.Replies.{faulty-reply}
+use Rattle.skew.proofs.question.question.Statement.{statement}
+use Rattle.skew.proofs.question.question.Tie as tie
+
+judge-requires : tie.Need-judge-requires
+judge-requires c κs = search needs
+
+enum-known-verdict : tie.Need-enum-known-verdict
+enum-known-verdict c = search needs
+
+enum-told : tie.Need-enum-told
+enum-told c = search needs
+
+reply-requires : tie.Need-reply-requires
+reply-requires c κs = judged-accepted _ (c .before .before .judge .result) (c .before .before .judge .ensures) (c .enum-told .given .1)
+
+returns : tie.Need-returns
+returns c = search (faulty-reply, needs)
+
+returns-2 : tie.Need-returns-2
+returns-2 c =
+    let f = c .before .before .before .before .before .fits in
+    rw (asked-read (f .period) (f .kind) (f .number) (f .tail) (f .head)) at (c .reply .ensures)
+
+pub question-spec : {M : Type 1} → statement M
+question-spec =
+    tie.close
+    (tie.spec judge-requires enum-known-verdict enum-told reply-requires returns returns-2)

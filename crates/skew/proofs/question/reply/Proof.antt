@@ -1,0 +1,88 @@
+-- `skew::question::reply` meets its contract: number 10 where a test failed, else yes or no by the slack's sign. The parts answer of the
+-- numbers as they are read back, which are the numbers themselves.
+use mathlib.Core.Path.{sym, _∙_}
+use borrow.Author.Needs.{needs}
+use borrow.Author.Tests.{not-true, not-false}
+use denote.Ref.{now}
+use mir.Syntax.{w32}
+use mir.Val.{SFits}
+use mir.Facts.{toZ-ofZ}
+use Rattle.paper.specs.File.{networkOf}
+use Rattle.paper.specs.declared.Reply.{Reply}
+use Rattle.paper.specs.Question.{Question, InRange, Answers}
+use Rattle.skew.specs.Asked.{asked}
+use Rattle.skew.proofs.Limits.{read, asked-read}
+use Rattle.skew.proofs.Replies.{is-in-range, no-rule, no-numbers, question-reply, slack-yes, slack-no}
+use Rattle.skew.proofs.question.reply.Statement.{statement}
+use Rattle.skew.proofs.question.reply.Tie as tie
+
+header-requires : tie.Need-header-requires
+header-requires c κs = search needs
+
+in-range-requires : tie.Need-in-range-requires
+in-range-requires c κs = search needs
+
+exists-requires : tie.Need-exists-requires
+exists-requires c κs = search needs
+
+abbrev at : tie.Start → Question
+at s = asked (read (s .args .period)) (read (s .args .kind)) (read (s .args .number)) (read (s .args .tail)) (read (s .args .head))
+
+-- past both tests the question is in range
+in-range : (c : tie.Else2) → InRange (networkOf (now (c .before .before .before .before .before .before .args .file))) (at (c .before .before .before .before .before .before))
+in-range c =
+    let header = c .before .before .before .before .header .ensures in
+    is-in-range (c .before .before .exists .result) (header .registers) (header .paths) (c .before .before .exists .ensures)
+    (sym (c .before .before .before .in-range .ensures) ∙ not-false _ (c .before .if1 .left))
+    (not-false _ (c .if2 .left))
+
+-- what is answered of the numbers as they are read is answered of the numbers
+answered : (s : tie.Start) {o : Reply} → Answers (now (s .args .file)) (at s) o → Answers (now (s .args .file)) (asked (s .args .period) (s .args .kind) (s .args .number) (s .args .tail) (s .args .head)) o
+answered s a = rw (asked-read (s .fits .period) (s .fits .kind) (s .fits .number) (s .fits .tail) (s .fits .head)) at a
+
+returns : tie.Need-returns
+returns c =
+    let s = c .before .before .before .before .before in
+    answered s (question-reply _ (at s) (s .pre) (no-numbers (sym (c .before .before .in-range .ensures) ∙ not-true _ (c .if1 .taken))))
+
+returns-2 : tie.Need-returns-2
+returns-2 c =
+    let s = c .before .before .before .before .before .before in
+    let header = c .before .before .before .before .header .ensures in
+    answered s
+    (question-reply _ (at s) (s .pre)
+    (no-rule (c .before .before .exists .result) (header .registers) (header .paths) (c .before .before .exists .ensures) (not-true _ (c .if2 .taken))))
+
+slack-requires : tie.Need-slack-requires
+slack-requires c κs =
+    let s = c .before .before .before .before .before .before in
+    record { accepted = s .pre; registers = c .before .before .before .before .header .ensures .registers; in-range = in-range c }
+
+returns-3 : tie.Need-returns-3
+returns-3 c =
+    let past = c .before .before .before in
+    let s = past .before .before .before .before .before .before .before in
+    let z = past .slack in
+    let f : SFits w32 (z .result .0) = search needs in
+    answered s (slack-yes _ (at s) (z .result .0) (s .pre) (in-range (past .before)) (z .ensures) (rw (toZ-ofZ f) at (c .if3 .taken)))
+
+returns-4 : tie.Need-returns-4
+returns-4 c =
+    let past = c .before .before .before in
+    let s = past .before .before .before .before .before .before .before in
+    let z = past .slack in
+    let f : SFits w32 (z .result .0) = search needs in
+    answered s (slack-no _ (at s) (z .result .0) (s .pre) (in-range (past .before)) (z .ensures) (rw (toZ-ofZ f) at (c .if3 .left)))
+
+pub reply-spec : {M : Type 1} → statement M
+reply-spec =
+    tie.close
+    (tie.spec
+    header-requires
+    in-range-requires
+    exists-requires
+    returns
+    returns-2
+    slack-requires
+    returns-3
+    returns-4)

@@ -1,0 +1,34 @@
+-- The rule question that a schedule is held against.
+use mathlib.Core.Path.{_≡_}
+use mathlib.Core.List.{List}
+use Prim.Native.Nat.{ℕ, _<_}
+use lib.IntN.{ℤ, pos, negsuc}
+use lib.Signed.{_≤ℤ_}
+use Rattle.paper.specs.declared.Reply.{Reply}
+use Rattle.paper.specs.declared.Reply.the-variants as reply
+use Rattle.paper.specs.Network.{Network}
+use Rattle.paper.specs.Rules.{Rule, kind, number, tail, head}
+use Rattle.paper.specs.File.{networkOf}
+use Rattle.paper.specs.Question.{Question, InRange, Answers}
+
+-- whether rule r is met at period P by the latencies x: it "names a file, a period, a rule by kind and number, and the latencies at the
+-- arrow's tail and head"
+abbrev pub questionOf : Network → ℕ → (ℕ → ℤ) → Rule → Question
+questionOf N P x r =
+    record {
+      period = pos P;
+      kind-asked = pos (kind r);
+      number-asked = pos (number r);
+      tail-latency = x (tail N r);
+      head-latency = x (head N r);
+    }
+
+-- "a latency is outside -1,000,000 to 1,000,000": none is
+abbrev pub LatenciesInRange : Network → (ℕ → ℤ) → Type 0
+LatenciesInRange N x = (i : ℕ) → i < N .registers → (negsuc 999999 ≤ℤ x i) × (x i ≤ℤ pos 1000000)
+
+-- The question is not refused, and yes is the one reply to it.
+pub record SaysYes (f : List ℕ) (q : Question) : Type 0 where
+  pub in-range : InRange (networkOf f) q
+  pub allowed : Answers f q reply.Yes
+  pub only : (o : Reply) → Answers f q o → o ≡ reply.Yes

@@ -1,0 +1,8 @@
+-- What the contracts of the rule question cite beside the paper.
+pub mod Asked
+pub mod Slack
+pub mod Same
+pub mod Shows
+pub mod Rows
+pub mod Asks
+pub mod Reads

@@ -1,0 +1,30 @@
+-- What stands in the output, number by number: what a caller reads there.
+use mathlib.Core.Path.{_≡_}
+use mathlib.Core.List.{List}
+use Prim.Native.Nat.{ℕ, _+_, _*_, _<_}
+use lib.IntN.{ℤ, pos}
+use lib.ListN.{length, getD}
+use Rattle.whole.specs.Four.{numberAt}
+use Rattle.paper.specs.declared.Outcome.{Outcome}
+use Rattle.paper.specs.declared.Outcome.the-variants as outcome
+use Rattle.paper.specs.Rules.{Rule, Low, kind, number}
+use Rattle.paper.specs.File.{networkOf}
+use Rattle.paper.specs.Outcome.{Left}
+
+-- `SK` period, number of latencies, number of loop entries (14 bytes); then for each register `LT` latency (6 bytes); then for each loop
+-- entry `ED` kind, number (10 bytes): each number is read at its place, past its record's mark of two bytes
+pub record Reads (after : List ℕ) (P n : ℕ) (x : ℕ → ℤ) (l : List Rule) : Type 0 where
+  pub period : numberAt after 2 ≡ pos P
+  pub latencies : numberAt after 6 ≡ pos n
+  pub entries : numberAt after 10 ≡ pos (length l)
+  pub latency : (i : ℕ) → i < n → numberAt after (14 + 6 * i + 2) ≡ x i
+  pub entry-kind : (j : ℕ) → j < length l → numberAt after (14 + 6 * n + 10 * j + 2) ≡ pos (kind (getD l j (Low 0)))
+  pub entry-number : (j : ℕ) → j < length l → numberAt after (14 + 6 * n + 10 * j + 6) ≡ pos (number (getD l j (Low 0)))
+
+-- by cases of the outcome: the answer, or the loop alone after "`SK` 0, 0, count"
+abbrev pub ReadsBack : (f before : List ℕ) (o : Outcome) (after : List ℕ) → Left f o before after → Type 0
+ReadsBack f before outcome.Answered after l = Reads after (l .period) (networkOf f .registers) (l .latency) (l .loop)
+ReadsBack f before (outcome.File x) after l = Unit {0}
+ReadsBack f before outcome.Room after l = Unit {0}
+ReadsBack f before outcome.NoPeriod after l = Reads after 0 0 (λ i. pos 0) (l .loop)
+ReadsBack f before outcome.NoneToCeiling after l = Reads after 0 0 (λ i. pos 0) (l .loop)

@@ -1,0 +1,42 @@
+-- What the loop that is shown proves of the periods: "when it is above the floor, or there is no answer, a loop that proves it is shown".
+use mathlib.Core.Path.{_≡_}
+use mathlib.Core.List.{List}
+use Prim.Native.Nat.{ℕ, _≤_, _<_}
+use lib.IntN.{pos}
+use lib.Signed.{_<ℤ_}
+use Rattle.paper.specs.declared.Outcome.{Outcome}
+use Rattle.paper.specs.declared.Outcome.the-variants as outcome
+use Rattle.paper.specs.Network.{Network}
+use Rattle.paper.specs.Rules.{Rule}
+use Rattle.paper.specs.Schedule.{Refutes, setups, need}
+use Rattle.paper.specs.File.{networkOf}
+use Rattle.paper.specs.Refusals.{Scheduled, NoPeriod}
+use Rattle.paper.specs.Outcome.{Left}
+
+-- No period is shorter than P: at each of these the loop contradicts itself, and P is what it needs.
+pub record ProvesLeast (N : Network) (P : ℕ) (l : List Rule) : Type 0 where
+  pub refutes : (Q : ℕ) → Q < P → Refutes N Q l
+  pub none : (Q : ℕ) → Q < P → Scheduled N Q → ⊥
+  pub has-setup : 0 < setups l
+  pub needs : need N l ≡ pos P
+
+-- No period, however large, has a schedule: the loop has no setup rule, and contradicts itself at every period.
+pub record ProvesNone (N : Network) (l : List Rule) : Type 0 where
+  pub no-setups : setups l ≡ 0
+  pub refutes : (Q : ℕ) → Refutes N Q l
+  pub none : NoPeriod N
+
+-- No period up to the ceiling has a schedule: at each of these the loop contradicts itself, and what it needs is above the ceiling.
+pub record ProvesNoneToCeiling (N : Network) (l : List Rule) : Type 0 where
+  pub refutes : (Q : ℕ) → Q ≤ N .ceiling → Refutes N Q l
+  pub none : (Q : ℕ) → Q ≤ N .ceiling → Scheduled N Q → ⊥
+  pub has-setup : 0 < setups l
+  pub needs : pos (N .ceiling) <ℤ need N l
+
+-- what the loop in the output proves, by cases of the outcome; numbers 1 to 7 write none
+abbrev pub LoopProves : (f before : List ℕ) (o : Outcome) (after : List ℕ) → Left f o before after → Type 0
+LoopProves f before outcome.Answered after l = networkOf f .floor < l .period → ProvesLeast (networkOf f) (l .period) (l .loop)
+LoopProves f before (outcome.File x) after l = Unit {0}
+LoopProves f before outcome.Room after l = Unit {0}
+LoopProves f before outcome.NoPeriod after l = ProvesNone (networkOf f) (l .loop)
+LoopProves f before outcome.NoneToCeiling after l = ProvesNoneToCeiling (networkOf f) (l .loop)

@@ -1,0 +1,59 @@
+-- What the parts of the rule question answer: whether its numbers lie in their ranges, whether the rule exists, and by how much it is met.
+use mathlib.Core.Path.{_≡_}
+use mathlib.Core.List.{List}
+use mathlib.Core.Bool.{Bool, true, false, _&&_}
+use Prim.Native.Nat.{ℕ}
+use lib.IntN.{ℤ, pos, negsuc}
+use lib.Signed.{_≤ℤ_}
+use Rattle.network.specs.declared.Register.{Register}
+use Rattle.network.specs.declared.Path.{Path}
+use Rattle.paper.specs.Network.{Network}
+use Rattle.paper.specs.Rules.{Rule, slack}
+use Rattle.paper.specs.File.{natural, within, networkOf}
+use Rattle.paper.specs.Refusals.{Accepted}
+use Rattle.paper.specs.Question.{Question, Asked, InRange}
+use Rattle.skew.specs.Asked.{asked}
+
+-- the ranges of the period and of the latencies at the arrow's tail and head
+unfoldable pub numbersWithin : ℤ → ℤ → ℤ → Bool
+numbersWithin period tail head =
+    within (pos 1) (pos 10000000) period
+    && within (negsuc 999999) (pos 1000000) tail
+    && within (negsuc 999999) (pos 1000000) head
+
+-- t tells whether A holds
+abbrev pub Tells : Bool → Type 0 → Type 0
+Tells true A = A
+Tells false A = A → ⊥
+
+-- t tells whether a network of n registers and m paths has a rule of this kind and number
+abbrev pub TellsRule : ℕ → ℕ → ℤ → ℤ → Bool → Type 0
+TellsRule n m kind number t =
+    (N : Network) → n ≡ N .registers → m ≡ N .paths → (period tail head : ℤ)
+    → Tells t ((r : Rule) × Asked N (asked period kind number tail head) r)
+
+-- Nothing that a slack is made of lies further from 0 than the longest period does, so sums of a few such numbers fit 32 bits.
+pub record Small (z : ℤ) : Type 0 where
+  pub from : negsuc 9999999 ≤ℤ z
+  pub to : z ≤ℤ pos 10000000
+
+pub record SmallPath (path : Path) : Type 0 where
+  pub dmin : Small (path .dmin .0)
+  pub dmax : Small (path .dmax .0)
+  pub uncertainty : Small (path .uncertainty .0)
+
+pub record SmallRegister (register : Register) : Type 0 where
+  pub setup : Small (register .setup .0)
+  pub hold : Small (register .hold .0)
+  pub low : Small (register .low .0)
+  pub high : Small (register .high .0)
+
+-- a question that is not refused: the file is accepted, with n registers, and the question is in range
+pub record Ready (f : List ℕ) (n : ℕ) (q : Question) : Type 0 where
+  pub accepted : Accepted f
+  pub registers : n ≡ networkOf f .registers
+  pub in-range : InRange (networkOf f) q
+
+-- z is the slack of the rule that is asked for
+abbrev pub IsSlack : Network → Question → ℤ → Type 0
+IsSlack N q z = (r : Rule) → Asked N q r → z ≡ slack N (natural (q .period)) r (q .tail-latency) (q .head-latency)
