@@ -1,4 +1,5 @@
--- Laws of the rule question. For readers: QuestionLaws. The others serve the proofs of its parts.
+-- The theorems about the two public functions: Unique, Numbers, Demands, ReadBack and WorkedResults of the scheduler, QuestionLaws of the
+-- rule question, Joined of both. The others serve the proofs of the functions' parts.
 pub mod Sums
 pub mod Limits
 pub mod Named

@@ -99,12 +99,12 @@ module _ (h r q s t e p : List ℕ) where
   about-number = simp append-assoc
 
 -- every number fits four bytes
-record Small (P n : ℕ) (x : ℕ → ℤ) (l : List Rule) : Type 0 where
-  period : P ≤ 10000000
-  count : n ≤ 256
-  latency : (i : ℕ) → i < n → (negsuc 999999 ≤ℤ x i) × (x i ≤ℤ pos 1000000)
-  entries : length l ≤ 256
-  entry : (j : ℕ) → j < length l → (kind (getD l j (Low 0)) ≤ 3) × (number (getD l j (Low 0)) ≤ 2048)
+pub record Small (P n : ℕ) (x : ℕ → ℤ) (l : List Rule) : Type 0 where
+  pub period : P ≤ 10000000
+  pub count : n ≤ 256
+  pub latency : (i : ℕ) → i < n → (negsuc 999999 ≤ℤ x i) × (x i ≤ℤ pos 1000000)
+  pub entries : length l ≤ 256
+  pub entry : (j : ℕ) → j < length l → (kind (getD l j (Low 0)) ≤ 3) × (number (getD l j (Low 0)) ≤ 2048)
 
 module _ (P n : ℕ) (x : ℕ → ℤ) (l : List Rule) (after past : List ℕ) (small : Small P n x l)
     (bytes : after ≡ (skewRecord P n (length l) ++ latencyRecords x n ++ entryRecords l) ++ past) where
@@ -185,7 +185,7 @@ module _ (N : Network) (g : Legal N) where
   loop-entries : (l : List Rule) → IsLoop N l → (j : ℕ) → j < length l → (kind (getD l j (Low 0)) ≤ 3) × (number (getD l j (Low 0)) ≤ 2048)
   loop-entries l i j h = all-at (λ r. (kind r ≤ 3) × (number r ≤ 2048)) l (all-map rule-small l (i .exist)) (Low 0) j h
 
-  answer-small : (P : ℕ) (x : ℕ → ℤ) (l : List Rule) → Answer N P x → Shown N P l → Small P (N .registers) x l
+  pub answer-small : (P : ℕ) (x : ℕ → ℤ) (l : List Rule) → Answer N P x → Shown N P l → Small P (N .registers) x l
   answer-small P x [] a s =
       record {
         period = omega (arith, a .to-ceiling, g .ceiling-to);
@@ -203,7 +203,7 @@ module _ (N : Network) (g : Legal N) where
         entry = loop-entries (r ∷ l) (s .1 .is-loop);
       }
 
-  alone-small : (l : List Rule) → IsLoop N l → Small 0 0 (λ i. pos 0) l
+  pub alone-small : (l : List Rule) → IsLoop N l → Small 0 0 (λ i. pos 0) l
   alone-small l i =
       record {
         period = omega arith;

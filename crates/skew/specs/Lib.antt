@@ -1,4 +1,4 @@
--- What the contracts of the rule question cite beside the paper.
+-- What the contracts and theorems of the two public functions cite beside the paper.
 pub mod Asked
 pub mod Slack
 pub mod Same

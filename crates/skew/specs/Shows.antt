@@ -1,4 +1,5 @@
--- What the loop that is shown proves of the periods: "when it is above the floor, or there is no answer, a loop that proves it is shown".
+-- What the loop that is shown proves of the periods: above the floor that no smaller one has a schedule, and where there is no answer, that
+-- none has.
 use mathlib.Core.Path.{_≡_}
 use mathlib.Core.List.{List}
 use Prim.Native.Nat.{ℕ, _≤_, _<_}

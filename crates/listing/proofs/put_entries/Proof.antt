@@ -1,0 +1,97 @@
+-- `listing::put_entries` meets its contract. The loop's invariant: the lines of the entries passed stand in the text.
+use mathlib.Core.Path.{_∙_}
+use Prim.Native.Nat.{_-_}
+use native.Mathlib.Omega.{arith}
+use mir.Facts.{toZ-ofZ}
+use borrow.Author.Needs.{needs}
+use mir.Syntax.{w32}
+use mir.Val.{SFits}
+use Rattle.listing.specs.Text.{entryLines}
+use Rattle.listing.proofs.Runs.{named}
+use Rattle.listing.proofs.Lines.{Lines, lines-none, lines-more, lines-all, entry-none, entry-more, line-is}
+use Rattle.listing.proofs.put_entries.Statement.{statement}
+use Rattle.listing.proofs.put_entries.Tie as tie
+
+abbrev Inv-loop : tie.InvT-loop
+Inv-loop text₀ at answer start k next₀ j₀ text next j = Lines (entryLines answer start) k text₀ at text next j
+
+abbrev μ-loop : tie.MeasureT-loop
+μ-loop text₀ at answer start k next₀ j₀ text next j = k - j
+
+loop-holds : tie.Need-loop-holds Inv-loop μ-loop
+loop-holds c = lines-none _ _ _ _ (entry-none _ _)
+
+mul-number : tie.Need-mul-number Inv-loop μ-loop
+mul-number c = omega arith
+
+add-number : tie.Need-add-number Inv-loop μ-loop
+add-number c = omega arith
+
+add-number-2 : tie.Need-add-number-2 Inv-loop μ-loop
+add-number-2 c = omega arith
+
+number-requires : tie.Need-number-requires Inv-loop μ-loop
+number-requires c κs = omega arith
+
+mul-number-2 : tie.Need-mul-number-2 Inv-loop μ-loop
+mul-number-2 c = omega arith
+
+add-number-3 : tie.Need-add-number-3 Inv-loop μ-loop
+add-number-3 c = omega arith
+
+add-number-4 : tie.Need-add-number-4 Inv-loop μ-loop
+add-number-4 c = omega arith
+
+number-requires-2 : tie.Need-number-requires-2 Inv-loop μ-loop
+number-requires-2 c κs = omega arith
+
+put-entry-requires : tie.Need-put-entry-requires Inv-loop μ-loop
+put-entry-requires c κs =
+    let v = c .before .before .before .before .loop .inv in
+    let s = c .before .before .before .before .before .before .before in
+    omega (arith, v .few, v .same, v .within, s .pre .1)
+
+add-j : tie.Need-add-j Inv-loop μ-loop
+add-j c = omega arith
+
+loop-less : tie.Need-loop-less Inv-loop μ-loop
+loop-less c = omega arith
+
+loop-again : tie.Need-loop-again Inv-loop μ-loop
+loop-again c =
+    let turn = c .before .before .before .before .before .before in
+    let kind = c .before .before .before .before .before in
+    let number = c .before .before .before .before in
+    let f : SFits w32 (kind .number .result) = search needs in
+    let g : SFits w32 (number .number2 .result) = search needs in
+    let w = c .before .before .put-entry .ensures in
+    lines-more _ _ _ _ _ _ _ _ _ _ (turn .before .loop .inv) (turn .loop-test .taken) (entry-more _ _ _)
+    (named (w .0) (line-is (toZ-ofZ f ∙ kind .number .ensures) (toZ-ofZ g ∙ number .number2 .ensures))) (w .1)
+
+same-length : tie.Need-same-length Inv-loop μ-loop
+same-length c = c .before .loop .inv .same
+
+returns : tie.Need-returns Inv-loop μ-loop
+returns c = lines-all _ _ _ _ _ _ _ (c .before .loop .inv) (c .loop-test .left)
+
+pub put-entries-spec : {M : Type 1} → statement M
+put-entries-spec =
+    tie.close
+    (tie.spec
+    Inv-loop
+    μ-loop
+    loop-holds
+    mul-number
+    add-number
+    add-number-2
+    number-requires
+    mul-number-2
+    add-number-3
+    add-number-4
+    number-requires-2
+    put-entry-requires
+    add-j
+    loop-less
+    loop-again
+    same-length
+    returns)

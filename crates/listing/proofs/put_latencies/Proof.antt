@@ -1,0 +1,79 @@
+-- `listing::put_latencies` meets its contract. The loop's invariant: the lines of the registers passed stand in the text.
+use mathlib.Core.Path.{_∙_, ap}
+use Prim.Native.Nat.{_-_}
+use native.Mathlib.Omega.{arith}
+use mir.Facts.{toZ-ofZ}
+use borrow.Author.Needs.{needs}
+use mir.Syntax.{w32}
+use mir.Val.{SFits}
+use Rattle.listing.specs.Text.{latencyLine, latencyLines}
+use Rattle.listing.proofs.Runs.{named}
+use Rattle.listing.proofs.Lines.{Lines, lines-none, lines-more, lines-all, latency-none, latency-more}
+use Rattle.listing.proofs.put_latencies.Statement.{statement}
+use Rattle.listing.proofs.put_latencies.Tie as tie
+
+abbrev Inv-loop : tie.InvT-loop
+Inv-loop text₀ at answer n next₀ i₀ text next i = Lines (latencyLines answer) n text₀ at text next i
+
+abbrev μ-loop : tie.MeasureT-loop
+μ-loop text₀ at answer n next₀ i₀ text next i = n - i
+
+loop-holds : tie.Need-loop-holds Inv-loop μ-loop
+loop-holds c = lines-none _ _ _ _ (latency-none _)
+
+mul-number : tie.Need-mul-number Inv-loop μ-loop
+mul-number c = omega arith
+
+add-number : tie.Need-add-number Inv-loop μ-loop
+add-number c = omega arith
+
+add-number-2 : tie.Need-add-number-2 Inv-loop μ-loop
+add-number-2 c = omega arith
+
+number-requires : tie.Need-number-requires Inv-loop μ-loop
+number-requires c κs = omega arith
+
+put-latency-requires : tie.Need-put-latency-requires Inv-loop μ-loop
+put-latency-requires c κs =
+    let v = c .before .before .before .loop .inv in
+    let s = c .before .before .before .before .before .before in
+    omega (arith, v .few, v .same, v .within, s .pre .0, s .pre .2)
+
+add-i : tie.Need-add-i Inv-loop μ-loop
+add-i c = omega arith
+
+loop-less : tie.Need-loop-less Inv-loop μ-loop
+loop-less c = omega arith
+
+loop-again : tie.Need-loop-again Inv-loop μ-loop
+loop-again c =
+    let turn = c .before .before .before .before .before in
+    let number = c .before .before .before .before in
+    let f : SFits w32 (number .number .result) = search needs in
+    let w = c .before .before .put-latency .ensures in
+    lines-more _ _ _ _ _ _ _ _ _ _ (turn .before .loop .inv) (turn .loop-test .taken) (latency-more _ _)
+    (named (w .0) (ap (latencyLine (turn .before .loop .i)) (toZ-ofZ f ∙ number .number .ensures))) (w .1)
+
+same-length : tie.Need-same-length Inv-loop μ-loop
+same-length c = c .before .loop .inv .same
+
+returns : tie.Need-returns Inv-loop μ-loop
+returns c = lines-all _ _ _ _ _ _ _ (c .before .loop .inv) (c .loop-test .left)
+
+pub put-latencies-spec : {M : Type 1} → statement M
+put-latencies-spec =
+    tie.close
+    (tie.spec
+    Inv-loop
+    μ-loop
+    loop-holds
+    mul-number
+    add-number
+    add-number-2
+    number-requires
+    put-latency-requires
+    add-i
+    loop-less
+    loop-again
+    same-length
+    returns)

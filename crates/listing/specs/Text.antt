@@ -1,0 +1,122 @@
+-- The text of a listing.
+--
+-- "decimal lines, each ended by one newline: `period` P; `latency` register value, for each register; and if there is a loop, `loop` with
+-- the period at which it contradicts itself, then a line for each entry, kind name and number. For a refusal: `refused` number place, and
+-- for 8 and 9 the `loop` line with the ceiling and the entries."
+use mathlib.Core.List.{List, [], _∷_, _++_}
+use mathlib.Core.Bool.{cond}
+use mathlib.Core.Path.{_≡_}
+use Prim.Native.Nat.{ℕ, zero, suc, _+_, _*_}
+use lib.IntN.{ℤ, pos, negsuc, _-ℤ_}
+use lib.Dec.{eqb}
+use lib.ListN.{length}
+use lib.Seq.{sets}
+use Rattle.whole.specs.Four.{numberAt}
+use Rattle.paper.specs.declared.Outcome.{Outcome}
+use Rattle.paper.specs.declared.Outcome.the-variants as outcome
+use Rattle.paper.specs.File.{natural}
+use Rattle.paper.specs.Outcome.{outcomeNumber, outcomePlace}
+use Rattle.listing.specs.Decimal.{decimal, whole}
+
+-- ---- the words, each with the space behind it, in ASCII
+
+-- `period `
+abbrev pub periodWord : List ℕ
+periodWord = 112 ∷ 101 ∷ 114 ∷ 105 ∷ 111 ∷ 100 ∷ 32 ∷ []
+
+-- `latency `
+abbrev pub latencyWord : List ℕ
+latencyWord = 108 ∷ 97 ∷ 116 ∷ 101 ∷ 110 ∷ 99 ∷ 121 ∷ 32 ∷ []
+
+-- `loop `
+abbrev pub loopWord : List ℕ
+loopWord = 108 ∷ 111 ∷ 111 ∷ 112 ∷ 32 ∷ []
+
+-- `refused `
+abbrev pub refusedWord : List ℕ
+refusedWord = 114 ∷ 101 ∷ 102 ∷ 117 ∷ 115 ∷ 101 ∷ 100 ∷ 32 ∷ []
+
+-- `setup `
+abbrev pub setupWord : List ℕ
+setupWord = 115 ∷ 101 ∷ 116 ∷ 117 ∷ 112 ∷ 32 ∷ []
+
+-- `hold `
+abbrev pub holdWord : List ℕ
+holdWord = 104 ∷ 111 ∷ 108 ∷ 100 ∷ 32 ∷ []
+
+-- `low `
+abbrev pub lowWord : List ℕ
+lowWord = 108 ∷ 111 ∷ 119 ∷ 32 ∷ []
+
+-- `high `
+abbrev pub highWord : List ℕ
+highWord = 104 ∷ 105 ∷ 103 ∷ 104 ∷ 32 ∷ []
+
+-- the kinds' names: 0 setup, 1 hold, 2 low, 3 high
+unfoldable pub kindWord : ℤ → List ℕ
+kindWord (pos k) = cond (eqb k 0) setupWord (cond (eqb k 1) holdWord (cond (eqb k 2) lowWord highWord))
+kindWord (negsuc k) = highWord
+
+-- ---- the lines
+
+abbrev pub newline : List ℕ
+newline = 10 ∷ []
+
+abbrev pub line : List ℕ → ℤ → List ℕ
+line word z = word ++ whole z ++ newline
+
+abbrev pub latencyLine : ℕ → ℤ → List ℕ
+latencyLine i z = latencyWord ++ decimal i ++ (32 ∷ []) ++ whole z ++ newline
+
+abbrev pub refusedLine : ℕ → ℕ → List ℕ
+refusedLine number place = refusedWord ++ decimal number ++ (32 ∷ []) ++ decimal place ++ newline
+
+-- the lines of the first registers: the latency of register i stands behind its mark
+unfoldable pub latencyLines : List ℕ → ℕ → List ℕ
+latencyLines answer zero = []
+latencyLines answer (suc i) = latencyLines answer i ++ latencyLine i (numberAt answer (14 + 6 * i + 2))
+
+-- the lines of the first entries of the loop whose records begin at a place: kind and number stand behind an entry's mark
+unfoldable pub entryLines : List ℕ → ℕ → ℕ → List ℕ
+entryLines answer start zero = []
+entryLines answer start (suc j) =
+    entryLines answer start j
+    ++ line (kindWord (numberAt answer (start + 10 * j + 2))) (numberAt answer (start + 10 * j + 6))
+
+-- a loop of k entries, with the period at which it contradicts itself
+abbrev pub loopLines : ℤ → List ℕ → ℕ → ℕ → List ℕ
+loopLines period answer start k = line loopWord period ++ entryLines answer start k
+
+-- ---- the listing of an outcome, over the bytes of the file and of the answer
+
+abbrev pub latencies : List ℕ → ℕ
+latencies answer = natural (numberAt answer 6)
+
+abbrev pub entries : List ℕ → ℕ
+entries answer = natural (numberAt answer 10)
+
+abbrev pub ceiling : List ℕ → ℤ
+ceiling file = numberAt file 14
+
+abbrev pub refused : Outcome → List ℕ
+refused o = refusedLine (outcomeNumber o) (outcomePlace o)
+
+unfoldable pub answeredText : List ℕ → List ℕ
+answeredText answer =
+    line periodWord (numberAt answer 2)
+    ++ latencyLines answer (latencies answer)
+    ++ cond (eqb (entries answer) 0)
+    []
+    (loopLines (numberAt answer 2 -ℤ pos 1) answer (14 + 6 * latencies answer) (entries answer))
+
+abbrev pub textOf : List ℕ → Outcome → List ℕ → List ℕ
+textOf file outcome.Answered answer = answeredText answer
+textOf file (outcome.File x) answer = refused (outcome.File x)
+textOf file outcome.Room answer = refused outcome.Room
+textOf file outcome.NoPeriod answer = refused outcome.NoPeriod ++ loopLines (ceiling file) answer 14 (entries answer)
+textOf file outcome.NoneToCeiling answer = refused outcome.NoneToCeiling ++ loopLines (ceiling file) answer 14 (entries answer)
+
+-- ---- a part of the text: the bytes stand from a place on, every other byte is as before, and the next place is the one behind them
+pub record Written (before : List ℕ) (at : ℕ) (bytes after : List ℕ) (next : ℕ) : Type 0 where
+  pub text : after ≡ sets before at bytes
+  pub place : next ≡ at + length bytes

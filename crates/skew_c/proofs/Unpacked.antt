@@ -1,0 +1,38 @@
+-- What a caller reads out of a packed integer is what was packed, and so what the two functions return is what their contracts say.
+use mathlib.Core.Path.{_≡_}
+use mathlib.Core.List.{List}
+use Prim.Native.Nat.{ℕ, _≤_, _<_}
+use native.Mathlib.Omega.{arith}
+use Rattle.paper.specs.declared.Outcome.{Outcome}
+use Rattle.paper.specs.declared.Reply.{Reply}
+use Rattle.paper.specs.Outcome.{outcomeNumber, outcomePlace, Result}
+use Rattle.paper.specs.Question.{Question, Answers, replyNumber, replyPlace}
+use Rattle.skew_c.specs.Packed.{packed, yesOf, packedOutcome, packedReply, numberIn, placeIn, yesIn}
+use Rattle.skew_c.specs.Returned.{Scheduled, Replied}
+use Rattle.skew_c.proofs.Places.{outcome-below, reply-below, outcome-to, reply-to, yes-to}
+
+-- a number, a place and a yes that fit their bits
+record Fit (n p y : ℕ) : Type 0 where
+  number-to : n ≤ 10
+  place-below : p < 2048
+  yes-to-1 : y ≤ 1
+
+module _ {n p y r : ℕ} (h : Fit n p y) (e : r ≡ packed n p y) where
+  reads-number : numberIn r ≡ n
+  reads-number = let a = h .number-to in let b = h .place-below in let c = h .yes-to-1 in omega arith
+
+  reads-place : placeIn r ≡ p
+  reads-place = let a = h .number-to in let b = h .place-below in let c = h .yes-to-1 in omega arith
+
+  reads-yes : yesIn r ≡ y
+  reads-yes = let a = h .number-to in let b = h .place-below in let c = h .yes-to-1 in omega arith
+
+pub scheduled : {f before after : List ℕ} {r : ℕ} (o : Outcome) → Result f before o after → r ≡ packedOutcome o → Scheduled f before r after
+scheduled o g e =
+    let h : Fit (outcomeNumber o) (outcomePlace o) 0 = record { number-to = outcome-to o; place-below = outcome-below g; yes-to-1 = omega arith } in
+    record { outcome = o; result = g; is-packed = e; number-read = reads-number h e; place-read = reads-place h e; no-yes = reads-yes h e }
+
+pub replied : {f : List ℕ} {q : Question} {r : ℕ} (o : Reply) → Answers f q o → r ≡ packedReply o → Replied f q r
+replied o g e =
+    let h : Fit (replyNumber o) (replyPlace o) (yesOf o) = record { number-to = reply-to o; place-below = reply-below g; yes-to-1 = yes-to o } in
+    record { reply = o; answers = g; is-packed = e; number-read = reads-number h e; place-read = reads-place h e; yes-read = reads-yes h e }

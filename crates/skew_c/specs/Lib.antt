@@ -1,0 +1,3 @@
+-- What the two functions for C and Rust callers return.
+pub mod Packed
+pub mod Returned

@@ -1,0 +1,2 @@
+-- What the scheduler leaves can be listed.
+pub mod Left

@@ -1,0 +1,148 @@
+//! The network and its four rules, as the paper's first table writes them.
+//!
+//! Every time is an `i64`, far wider than the file's four bytes, so that no sum of the judge's can overflow.
+
+pub const REGISTERS_MOST: i64 = 256;
+pub const PATHS_MOST: i64 = 2_048;
+pub const PERIOD_MOST: i64 = 10_000_000;
+pub const UNCERTAINTY_MOST: i64 = 10_000;
+pub const MARGIN_MOST: i64 = 100_000;
+pub const LATENCY_MOST: i64 = 1_000_000;
+pub const DELAY_MOST: i64 = 1_000_000;
+
+#[derive(Clone, Debug, PartialEq, Eq)]
+pub struct Register {
+    pub setup: i64,
+    pub hold: i64,
+    pub low: i64,
+    pub high: i64,
+}
+
+#[derive(Clone, Debug, PartialEq, Eq)]
+pub struct Path {
+    pub from: usize,
+    pub to: usize,
+    pub dmin: i64,
+    pub dmax: i64,
+}
+
+/// An accepted network: every field is within its range.
+#[derive(Clone, Debug, PartialEq, Eq)]
+pub struct Network {
+    pub floor: i64,
+    pub ceiling: i64,
+    pub uncertainty: i64,
+    pub registers: Vec<Register>,
+    pub paths: Vec<Path>,
+}
+
+#[derive(Clone, Copy, Debug, PartialEq, Eq, PartialOrd, Ord)]
+pub enum Kind {
+    Setup,
+    Hold,
+    Low,
+    High,
+}
+
+impl Kind {
+    pub const ALL: [Kind; 4] = [Kind::Setup, Kind::Hold, Kind::Low, Kind::High];
+
+    pub fn number(self) -> i32 {
+        match self {
+            Kind::Setup => 0,
+            Kind::Hold => 1,
+            Kind::Low => 2,
+            Kind::High => 3,
+        }
+    }
+
+    pub fn name(self) -> &'static str {
+        match self {
+            Kind::Setup => "setup",
+            Kind::Hold => "hold",
+            Kind::Low => "low",
+            Kind::High => "high",
+        }
+    }
+}
+
+/// A rule by kind and number: the path's number for setup and hold, the register's for low and high.
+#[derive(Clone, Copy, Debug, PartialEq, Eq, PartialOrd, Ord)]
+pub struct Rule {
+    pub kind: Kind,
+    pub number: usize,
+}
+
+impl Network {
+    /// The rule of that kind and number, if the network has it. The host has neither low nor high.
+    pub fn rule(&self, kind: i32, number: i32) -> Option<Rule> {
+        let kind = *Kind::ALL.iter().find(|k| k.number() == kind)?;
+        let number = usize::try_from(number).ok()?;
+        let exists = match kind {
+            Kind::Setup | Kind::Hold => number < self.paths.len(),
+            Kind::Low | Kind::High => number >= 1 && number < self.registers.len(),
+        };
+        exists.then_some(Rule { kind, number })
+    }
+
+    pub fn rules(&self) -> Vec<Rule> {
+        let of_paths =
+            (0..self.paths.len()).flat_map(|number| [Kind::Setup, Kind::Hold].map(|kind| Rule { kind, number }));
+        let of_windows =
+            (1..self.registers.len()).flat_map(|number| [Kind::Low, Kind::High].map(|kind| Rule { kind, number }));
+        of_paths.chain(of_windows).collect()
+    }
+
+    pub fn tail(&self, rule: Rule) -> usize {
+        match rule.kind {
+            Kind::Setup => self.paths[rule.number].from,
+            Kind::Hold => self.paths[rule.number].to,
+            Kind::Low => 0,
+            Kind::High => rule.number,
+        }
+    }
+
+    pub fn head(&self, rule: Rule) -> usize {
+        match rule.kind {
+            Kind::Setup => self.paths[rule.number].to,
+            Kind::Hold => self.paths[rule.number].from,
+            Kind::Low => rule.number,
+            Kind::High => 0,
+        }
+    }
+
+    /// By how much the latency at the arrow's head must at least exceed the one at its tail.
+    pub fn amount(&self, rule: Rule, period: i64) -> i64 {
+        match rule.kind {
+            Kind::Setup => {
+                let path = &self.paths[rule.number];
+                path.dmax + self.registers[path.to].setup + self.uncertainty - period
+            }
+            Kind::Hold => {
+                let path = &self.paths[rule.number];
+                self.registers[path.to].hold + self.uncertainty - path.dmin
+            }
+            Kind::Low => self.registers[rule.number].low,
+            Kind::High => -self.registers[rule.number].high,
+        }
+    }
+
+    /// The rule's inequality as the paper writes it, with the latencies named by where they stand on the arrow.
+    /// Low and high do not read the host's latency, so they are not the arrow form with 0 put in by the caller.
+    pub fn is_met(&self, rule: Rule, period: i64, at_tail: i64, at_head: i64) -> bool {
+        let u = self.uncertainty;
+        match rule.kind {
+            Kind::Setup => {
+                let path = &self.paths[rule.number];
+                at_tail + path.dmax + self.registers[path.to].setup + u <= at_head + period
+            }
+            Kind::Hold => {
+                // The arrow runs against the path: the receiver stands at its tail, the sender at its head.
+                let path = &self.paths[rule.number];
+                at_head + path.dmin >= at_tail + self.registers[path.to].hold + u
+            }
+            Kind::Low => at_head >= self.registers[rule.number].low,
+            Kind::High => at_tail <= self.registers[rule.number].high,
+        }
+    }
+}

@@ -1,0 +1,36 @@
+//! The second public question: is the named rule met by these latencies?
+
+use crate::file;
+use crate::paper::{LATENCY_MOST, PERIOD_MOST};
+
+#[derive(Clone, Copy, Debug, PartialEq, Eq)]
+pub struct Question {
+    pub period: i32,
+    pub kind: i32,
+    pub number: i32,
+    pub at_tail: i32,
+    pub at_head: i32,
+}
+
+/// The answer to a question; a refusal carries neither yes nor no.
+#[derive(Clone, Copy, Debug, PartialEq, Eq)]
+pub enum Reply {
+    Yes,
+    No,
+    Refused(file::Refusal),
+}
+
+pub fn reply(file: &[u8], question: &Question) -> Reply {
+    let network = match file::read(file) {
+        Ok(network) => network,
+        Err(refusal) => return Reply::Refused(refusal),
+    };
+    let [period, at_tail, at_head] = [question.period, question.at_tail, question.at_head].map(i64::from);
+    let in_range =
+        (1..=PERIOD_MOST).contains(&period) && at_tail.abs() <= LATENCY_MOST && at_head.abs() <= LATENCY_MOST;
+    match network.rule(question.kind, question.number) {
+        Some(rule) if in_range && network.is_met(rule, period, at_tail, at_head) => Reply::Yes,
+        Some(_) if in_range => Reply::No,
+        _ => Reply::Refused(file::Refusal::whole_file(10)),
+    }
+}

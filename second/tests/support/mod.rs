@@ -1,0 +1,178 @@
+//! What several tests share: the paper's worked cases, outputs written by hand, and the definitions tried out by
+//! exhaustion on networks small enough for it.
+#![allow(dead_code)]
+
+use second::draft::{put_record, Draft};
+use second::file;
+use second::paper::{Kind, Network, Rule};
+use second::rng::Rng;
+use second::wire::fresh_buffer;
+
+/// A worked case: its name, its network and what the paper says of it. The period is 0 for a refusal.
+pub struct Case {
+    pub name: &'static str,
+    pub draft: Draft,
+    pub number: i32,
+    pub period: i64,
+    pub latencies: &'static [i64],
+    pub witness: &'static [(Kind, usize)],
+}
+
+fn network_a() -> Draft {
+    Draft {
+        floor: 1,
+        ceiling: 100,
+        uncertainty: 0,
+        registers: vec![[1, 1, 0, 0], [1, 1, -10, 10], [1, 1, -10, 10]],
+        paths: vec![[0, 1, 2, 9], [1, 2, 2, 3], [2, 0, 2, 6]],
+    }
+}
+
+fn network_d() -> Draft {
+    Draft {
+        floor: 1,
+        ceiling: 100,
+        uncertainty: 0,
+        registers: vec![[0, 0, 0, 0], [0, 0, -10, 10]],
+        paths: vec![[0, 1, 5, 10], [1, 0, 5, 5]],
+    }
+}
+
+fn lone(hold: i32, paths: Vec<[i32; 4]>) -> Draft {
+    Draft { floor: 1, ceiling: 100, uncertainty: 0, registers: vec![[0, hold, 0, 0]], paths }
+}
+
+#[rustfmt::skip]
+pub fn worked_cases() -> Vec<Case> {
+    use Kind::*;
+    let a = network_a;
+    let e = Draft { registers: vec![[0, 0, 0, 0], [0, 0, 0, 1]], ..network_d() };
+    let case = |name, draft, number, period, latencies, witness| Case { name, draft, number, period, latencies, witness };
+    vec![
+        case("A", a(), 0, 9, &[0, 1, -1], &[(Setup, 0), (Hold, 0)]),
+        case("A2", Draft { floor: 9, ..a() }, 0, 9, &[0, 1, -1], &[]),
+        case("A3", Draft { floor: 20, ..a() }, 0, 20, &[0, -2, -1], &[]),
+        case("A4", Draft { ceiling: 8, ..a() }, 9, 0, &[], &[(Setup, 0), (Hold, 0)]),
+        case("A5", Draft { ceiling: 9, ..a() }, 0, 9, &[0, 1, -1], &[(Setup, 0), (Hold, 0)]),
+        case("A6", Draft { uncertainty: 1, ..a() }, 0, 11, &[0, 0, 0], &[(Setup, 0), (Hold, 0)]),
+        case("A7", Draft { uncertainty: 2, ..a() }, 8, 0, &[], &[(Hold, 2), (Hold, 1), (Hold, 0)]),
+        case("B", lone(1, vec![[0, 0, 0, 5]]), 8, 0, &[], &[(Hold, 0)]),
+        case("D", network_d(), 0, 8, &[0, 2], &[(Setup, 0), (Setup, 1)]),
+        case("E", e, 0, 9, &[0, 1], &[(Setup, 0), (High, 1)]),
+        case("F", lone(0, vec![]), 0, 1, &[0], &[]),
+    ]
+}
+
+pub fn accepted(draft: &Draft) -> Network {
+    file::read(&draft.file()).expect("the draft is a sound network")
+}
+
+pub fn rules_of(witness: &[(Kind, usize)]) -> Vec<Rule> {
+    witness.iter().map(|&(kind, number)| Rule { kind, number }).collect()
+}
+
+/// A fresh buffer of the room with an output written into it, as the paper lays it out.
+pub fn output(room: i32, period: i64, latencies: &[i64], witness: &[Rule]) -> Vec<u8> {
+    let mut bytes = Vec::new();
+    put_record(&mut bytes, b"SK", &[period as i32, latencies.len() as i32, witness.len() as i32]);
+    latencies.iter().for_each(|&latency| put_record(&mut bytes, b"LT", &[latency as i32]));
+    witness.iter().for_each(|rule| put_record(&mut bytes, b"ED", &[rule.kind.number(), rule.number as i32]));
+    let mut buffer = fresh_buffer(room);
+    buffer[..bytes.len()].copy_from_slice(&bytes);
+    buffer
+}
+
+/// Every loop of the network, listed from its lowest-numbered register.
+pub fn all_loops(network: &Network) -> Vec<Vec<Rule>> {
+    let mut found = Vec::new();
+    for lowest in 0..network.registers.len() {
+        extend(network, lowest, lowest, &mut Vec::new(), &mut found);
+    }
+    found
+}
+
+fn extend(network: &Network, lowest: usize, at: usize, chain: &mut Vec<Rule>, found: &mut Vec<Vec<Rule>>) {
+    for rule in network.rules().into_iter().filter(|&rule| network.tail(rule) == at) {
+        let head = network.head(rule);
+        chain.push(rule);
+        if head == lowest {
+            found.push(chain.clone());
+        } else if head > lowest && chain.iter().all(|&earlier| network.tail(earlier) != head) {
+            extend(network, lowest, head, chain, found);
+        }
+        chain.pop();
+    }
+}
+
+pub fn sum_at(network: &Network, rules: &[Rule], period: i64) -> i64 {
+    rules.iter().map(|&rule| network.amount(rule, period)).sum()
+}
+
+pub fn setups_in(rules: &[Rule]) -> i64 {
+    rules.iter().filter(|rule| rule.kind == Kind::Setup).count() as i64
+}
+
+/// The loops that may be shown with a number and a period, by the paper's words.
+pub fn loops_allowed(network: &Network, number: i32, period: i64) -> Vec<Vec<Rule>> {
+    let mut loops = all_loops(network);
+    match number {
+        0 if period == network.floor => loops.clear(),
+        0 => loops.retain(|rules| sum_at(network, rules, period - 1) > 0),
+        8 => loops.retain(|rules| setups_in(rules) == 0 && sum_at(network, rules, 1) > 0),
+        9 => loops.retain(|rules| sum_at(network, rules, network.ceiling) > 0),
+        other => panic!("no loop is shown with number {other}"),
+    }
+    loops
+}
+
+/// Number and period by the loops' needs: the larger of the floor and the greatest need.
+pub fn period_by_needs(network: &Network) -> (i32, i64) {
+    let loops = all_loops(network);
+    if loops.iter().any(|rules| setups_in(rules) == 0 && sum_at(network, rules, 1) > 0) {
+        return (8, 0);
+    }
+    let needs = loops.iter().filter(|rules| setups_in(rules) > 0).map(|rules| {
+        let (sum, setups) = (sum_at(network, rules, 0), setups_in(rules));
+        -(-sum).div_euclid(setups)
+    });
+    let period = needs.fold(network.floor, i64::max);
+    if period > network.ceiling {
+        (9, 0)
+    } else {
+        (0, period)
+    }
+}
+
+/// The least latencies at a period by trying every combination within the windows; none if there is no schedule.
+pub fn least_by_trying(network: &Network, period: i64) -> Option<Vec<i64>> {
+    let mut least: Option<Vec<i64>> = None;
+    let mut tried: Vec<i64> = network.registers.iter().map(|register| register.low).collect();
+    loop {
+        let met = |rule: Rule| network.is_met(rule, period, tried[network.tail(rule)], tried[network.head(rule)]);
+        if network.rules().into_iter().all(met) {
+            let so_far = least.get_or_insert_with(|| tried.clone());
+            so_far.iter_mut().zip(&tried).for_each(|(low, &latency)| *low = latency.min(*low));
+        }
+        let Some(next) = (0..tried.len()).find(|&i| tried[i] < network.registers[i].high) else {
+            return least;
+        };
+        tried[next] += 1;
+        (0..next).for_each(|i| tried[i] = network.registers[i].low);
+    }
+}
+
+/// How many combinations `least_by_trying` has to go through.
+pub fn combinations(network: &Network) -> i64 {
+    network.registers.iter().map(|register| register.high - register.low + 1).product()
+}
+
+/// Tiny networks of one seed that pass the filter, so many of them.
+pub fn tiny_networks(seed: u64, count: usize, keep: impl Fn(&Network) -> bool) -> Vec<(Draft, Network)> {
+    let mut rng = Rng::new(seed);
+    let drafts = std::iter::repeat_with(move || second::gen::tiny::network(&mut rng));
+    let networks = drafts.map(|draft| {
+        let network = accepted(&draft);
+        (draft, network)
+    });
+    networks.filter(|(_, network)| keep(network)).take(count).collect()
+}

@@ -1,0 +1,187 @@
+#!/usr/bin/env python3
+"""Tests of network.py and examples.py: python3 test_network.py"""
+
+import subprocess
+import sys
+import tempfile
+import unittest
+from pathlib import Path
+
+import examples
+import network
+
+HERE = Path(__file__).resolve().parent
+REGISTERS_A = ["register setup 1 hold 1 low 0 high 0"] + 2 * ["register setup 1 hold 1 low -10 high 10"]
+PATHS_A = ["path 0 1 2 9", "path 1 2 2 3", "path 2 0 2 6"]
+PATHS_D = ["path 0 1 5 10", "path 1 0 5 5"]
+
+
+def text(*lines, floor=1, ceiling=100, u=0):
+    return "\n".join([f"network floor {floor} ceiling {ceiling} u {u}", *lines]) + "\n"
+
+
+def variant_a(**limits):
+    return text(*REGISTERS_A, *PATHS_A, **limits)
+
+
+def variant_d(low, high):
+    registers = ["register setup 0 hold 0 low 0 high 0", f"register setup 0 hold 0 low {low} high {high}"]
+    return text(*registers, *PATHS_D)
+
+
+# The paper's eleven networks, with their register and path counts.
+PAPER = {
+    "A": (variant_a(), 3, 3),
+    "A2": (variant_a(floor=9), 3, 3),
+    "A3": (variant_a(floor=20), 3, 3),
+    "A4": (variant_a(ceiling=8), 3, 3),
+    "A5": (variant_a(ceiling=9), 3, 3),
+    "A6": (variant_a(u=1), 3, 3),
+    "A7": (variant_a(u=2), 3, 3),
+    "B": (text("register setup 0 hold 1 low 0 high 0", "path 0 0 0 5"), 1, 1),
+    "D": (variant_d(-10, 10), 2, 2),
+    "E": (variant_d(0, 1), 2, 2),
+    "F": (text("register setup 0 hold 0 low 0 high 0"), 1, 0),
+}
+
+
+def run(script, *words, data=b""):
+    return subprocess.run([sys.executable, str(HERE / script), *words], input=data, capture_output=True, check=False)
+
+
+class ThereAndBack(unittest.TestCase):
+    def test_the_papers_networks(self):
+        self.assertEqual(len(PAPER), 11)
+        for name, (lines, n, m) in PAPER.items():
+            with self.subTest(name):
+                data = network.make(lines)
+                self.assertEqual(len(data), 22 + 18 * (n + m))
+                self.assertEqual(network.show(data), lines)
+                self.assertEqual(network.make(network.show(data)), data)
+
+    def test_network_a_is_130_bytes(self):
+        data = network.make(PAPER["A"][0])
+        self.assertEqual(len(data), 130)
+        header = "4e57" "03000000" "03000000" "01000000" "64000000" "00000000"
+        self.assertEqual(data[:22].hex(), header)
+        self.assertEqual(data[40:58].hex(), "5247" "01000000" "01000000" "f6ffffff" "0a000000")
+        self.assertEqual(data[76:94].hex(), "5054" "00000000" "01000000" "02000000" "09000000")
+
+    def test_comments_blanks_and_empty_lines_do_not_count(self):
+        loose = "# first\n\n" + PAPER["D"][0].replace("path 0", "  path\t0 ").replace("10 high", "10   high") + "# last"
+        self.assertEqual(network.make(loose), network.make(PAPER["D"][0]))
+        self.assertEqual(network.make("network floor 1 ceiling 2 u 3 # all\n"), network.make("network floor 1 ceiling 2 u 3"))
+
+    def test_fields_out_of_range_are_not_refused(self):
+        faulty = text("register setup 2147483647 hold -2147483648 low 5 high -5", "path -1 99 7 3", floor=-4, ceiling=-9, u=-1)
+        self.assertEqual(network.show(network.make(faulty)), faulty)
+        self.assertEqual(network.make(text())[2:10], bytes(8))
+
+
+class Malformed(unittest.TestCase):
+    def test_lines(self):
+        start = "network floor 1 ceiling 2 u 3\n"
+        faults = {
+            "": "no network line",
+            "net floor 1 ceiling 2 u 3": "line 1: 'net' is none of",
+            "network floor 1 ceiling 2": "line 1: 5 words where 7 are due",
+            "network floor 1 ceiling 2 v 3": "line 1: 'v' where 'u' is due",
+            "network floor 1 ceiling 2 u x": "line 1: 'x' is not a decimal number",
+            "network floor +1 ceiling 2 u 3": "line 1: '+1' is not a decimal number",
+            "network floor 1_0 ceiling 2 u 3": "line 1: '1_0' is not a decimal number",
+            "network floor 2147483648 ceiling 2 u 3": "line 1: 2147483648 does not fit four bytes",
+            "path 0 0 0 0": "line 1: a path line before the network line",
+            start + start: "line 2: a second network line",
+            start + "\n# x\npath 0 0 0": "line 4: 4 words where 5 are due",
+            start + "path 0 0 0 0\nregister setup 0 hold 0 low 0 high 0": "line 3: a register line after a path line",
+        }
+        for lines, words in faults.items():
+            with self.subTest(lines):
+                with self.assertRaises(network.Malformed) as caught:
+                    network.make(lines)
+                self.assertIn(words, str(caught.exception))
+
+    def test_files(self):
+        sound = network.make(PAPER["A"][0])
+        faults = [b"", sound[:21], b"XX" + sound[2:], sound[:-1], sound + b"\0", sound[:22] + b"??" + sound[24:]]
+        faults += [sound[:76] + b"RG" + sound[78:], sound[:2] + b"\xff\xff\xff\xff" + sound[6:]]
+        for data in faults:
+            with self.subTest(data):
+                self.assertRaises(network.Malformed, network.show, data)
+
+
+class Commands(unittest.TestCase):
+    def test_make_and_show(self):
+        lines = PAPER["A"][0].encode()
+        made = run("network.py", "make", data=lines)
+        self.assertEqual((made.returncode, len(made.stdout)), (0, 130))
+        shown = run("network.py", "show", data=made.stdout)
+        self.assertEqual((shown.returncode, shown.stdout), (0, lines))
+
+    def test_faults_are_told_and_write_nothing(self):
+        fault = run("network.py", "make", data=b"network\n")
+        self.assertEqual((fault.returncode, fault.stdout), (1, b""))
+        self.assertIn(b"line 1: 1 words where 7 are due", fault.stderr)
+        self.assertEqual(run("network.py", "show", data=b"NW").returncode, 1)
+        self.assertEqual(run("network.py").returncode, 2)
+        self.assertEqual(run("examples.py").returncode, 2)
+
+
+def arrows(data, period):
+    """The rules of a sound network file as (tail, head, amount)."""
+    _, n, m, _, _, u = network.HEADER.unpack_from(data)
+    records = [network.RECORD.unpack_from(data, 22 + 18 * i)[1:] for i in range(n + m)]
+    registers, paths = records[:n], records[n:]
+    result = []
+    for source, sink, dmin, dmax in paths:
+        result.append((source, sink, dmax + registers[sink][0] + u - period))
+        result.append((sink, source, registers[sink][1] + u - dmin))
+    for i, (_, _, low, high) in enumerate(registers[1:], start=1):
+        result += [(0, i, low), (i, 0, -high)]
+    return n, result
+
+
+def has_schedule(data, period):
+    n, rules = arrows(data, period)
+    latency = n * [0]
+    for _ in range(n + 1):
+        raised = False
+        for tail, head, amount in rules:
+            if latency[tail] + amount > latency[head]:
+                latency[head] = latency[tail] + amount
+                raised = True
+        if not raised:
+            return True
+    return False
+
+
+class Examples(unittest.TestCase):
+    def test_texts_and_files_belong_together(self):
+        with tempfile.TemporaryDirectory() as folder:
+            self.assertEqual(run("examples.py", folder).returncode, 0)
+            names = sorted(path.name for path in Path(folder).iterdir())
+            self.assertEqual(names, ["a.net", "a.txt", "d.net", "d.txt", "pipeline.net", "pipeline.txt"])
+            for name in ("a", "d", "pipeline"):
+                lines = (Path(folder) / f"{name}.txt").read_text()
+                data = (Path(folder) / f"{name}.net").read_bytes()
+                bare = "".join(line + "\n" for line in lines.splitlines() if not line.startswith("#"))
+                self.assertEqual((network.make(lines), network.show(data)), (data, bare))
+        self.assertEqual(network.make(examples.NETWORK_A), network.make(PAPER["A"][0]))
+        self.assertEqual(network.make(examples.NETWORK_D), network.make(PAPER["D"][0]))
+
+    def test_the_pipeline_is_answered_above_its_floor(self):
+        data = network.make(examples.pipeline())
+        _, n, m, floor, ceiling, _ = network.HEADER.unpack_from(data)
+        self.assertEqual((n, m), (40, 120))
+        self.assertFalse(has_schedule(data, floor))
+        self.assertTrue(has_schedule(data, ceiling))
+        self.assertEqual(examples.pipeline(), examples.pipeline())
+
+    def test_schedules_of_the_small_ones(self):
+        for lines, period in ((examples.NETWORK_A, 9), (examples.NETWORK_D, 8)):
+            data = network.make(lines)
+            self.assertEqual((has_schedule(data, period - 1), has_schedule(data, period)), (False, True))
+
+
+if __name__ == "__main__":
+    unittest.main()
