@@ -1,0 +1,190 @@
+// The module's design in plain C++: two rows, preds, settling after each round, and the need of a contradicting loop as the next period.
+// Nothing is proved here and nothing is tuned: it shows what the design costs when written without regard to a prover.
+#include "plain.hpp"
+
+#include <utility>
+
+#include "network.hpp"
+
+Counts counts;
+
+namespace {
+
+constexpr uint16_t kNone = 65535;
+
+// Arrows in the order low, high, hold, setup: those that know no period are a prefix.
+struct Memory {
+    size_t n, m;
+    uint16_t tail[4608], head[4608];
+    int32_t amount[4608], base[2048];
+    int32_t a[256], b[256];
+    uint16_t pred[256], ring[256];
+    size_t fixed() const { return 2 * (n - 1) + m; }
+};
+
+struct Relaxed {
+    const int32_t *row; // the least schedule, where there are no entries
+    size_t entries;     // of the contradicting loop in `ring`
+};
+
+void fill(const uint8_t *file, Memory &g) {
+    const int32_t u = number_at(file, 18);
+    for (size_t i = 1; i < g.n; ++i) {
+        const size_t at = kHeader + kRecord * i, low = i - 1, high = g.n - 1 + low;
+        g.tail[low] = 0, g.head[low] = uint16_t(i), g.amount[low] = number_at(file, at + 10);
+        g.tail[high] = uint16_t(i), g.head[high] = 0, g.amount[high] = -number_at(file, at + 14);
+    }
+    for (size_t p = 0; p < g.m; ++p) {
+        const size_t at = kHeader + kRecord * (g.n + p), hold = 2 * (g.n - 1) + p, setup = hold + g.m;
+        const int32_t from = number_at(file, at + 2), to = number_at(file, at + 6);
+        const size_t receiver = kHeader + kRecord * size_t(to);
+        g.tail[hold] = g.head[setup] = uint16_t(to);
+        g.head[hold] = g.tail[setup] = uint16_t(from);
+        g.amount[hold] = number_at(file, receiver + 6) + u - number_at(file, at + 10);
+        g.base[p] = number_at(file, at + 14) + number_at(file, receiver + 2) + u;
+    }
+}
+
+bool turn_round(const Memory &g, size_t arrows, const int32_t *a, int32_t *b, uint16_t *pred) {
+    std::memcpy(b, a, g.n * sizeof *a);
+    bool raised = false;
+    for (size_t e = 0; e < arrows; ++e) {
+        const int32_t offer = a[g.tail[e]] + g.amount[e];
+        if (b[g.head[e]] < offer) {
+            b[g.head[e]] = offer;
+            pred[g.head[e]] = uint16_t(e);
+            raised = true;
+        }
+    }
+    return raised;
+}
+
+// Gives every register what its preds give it; false where some walk back along them finds no end.
+bool settle(const Memory &g, int32_t *row) {
+    uint8_t settled[256] = {};
+    for (size_t s = 0; s < g.n; ++s) {
+        size_t v = s, steps = 0;
+        int64_t sum = 0;
+        while (!settled[v] && g.pred[v] != kNone) {
+            if (steps++ > g.n) return false;
+            sum += g.amount[g.pred[v]];
+            v = g.tail[g.pred[v]];
+        }
+        int32_t time = int32_t((settled[v] ? row[v] : 0) + sum);
+        for (v = s; !settled[v]; v = g.tail[g.pred[v]]) {
+            row[v] = time;
+            settled[v] = 1;
+            if (g.pred[v] == kNone) break;
+            time -= g.amount[g.pred[v]];
+        }
+    }
+    return true;
+}
+
+// The lowest register of the circle of preds that v is on.
+size_t lowest_around(const Memory &g, size_t v) {
+    size_t lowest = v;
+    for (size_t w = g.tail[g.pred[v]]; w != v; w = g.tail[g.pred[w]]) lowest = w < lowest ? w : lowest;
+    return lowest;
+}
+
+// Where the circle starts that has the lowest register of all circles, as in the module. Each register is passed once, and those on circles
+// once more: `walk` tells on which walk a register was passed first.
+size_t circle_start(const Memory &g) {
+    uint16_t walk[256] = {};
+    size_t start = g.n;
+    for (size_t s = 0; s < g.n; ++s) {
+        size_t v = s;
+        while (!walk[v] && g.pred[v] != kNone) {
+            walk[v] = uint16_t(s + 1);
+            v = g.tail[g.pred[v]];
+        }
+        if (g.pred[v] == kNone || walk[v] != s + 1) continue;
+        const size_t lowest = lowest_around(g, v);
+        start = lowest < start ? lowest : start;
+    }
+    return start;
+}
+
+size_t list_circle(Memory &g) {
+    const size_t start = circle_start(g);
+    size_t entries = 0, v = start;
+    do {
+        ++entries;
+        v = g.tail[g.pred[v]];
+    } while (v != start);
+    for (size_t k = entries; k-- > 0; v = g.tail[g.ring[k]]) g.ring[k] = g.pred[v];
+    return entries;
+}
+
+Relaxed relax(Memory &g, size_t arrows) {
+    ++counts.relaxations;
+    g.a[0] = 0, g.pred[0] = kNone;
+    for (size_t v = 1; v < g.n; ++v) g.a[v] = g.amount[v - 1], g.pred[v] = uint16_t(v - 1);
+    int32_t *from = g.a, *to = g.b;
+    for (;;) {
+        ++counts.rounds, counts.offers += arrows;
+        if (!turn_round(g, arrows, from, to, g.pred)) return {to, 0};
+        if (!settle(g, to)) return {to, list_circle(g)};
+        std::swap(from, to);
+    }
+}
+
+int32_t need(const Memory &g, int32_t period, size_t entries) {
+    int64_t over = 0, setups = 0;
+    for (size_t j = 0; j < entries; ++j) {
+        over += g.amount[g.ring[j]];
+        setups += g.ring[j] >= g.fixed();
+    }
+    return period + int32_t((over + setups - 1) / setups);
+}
+
+void put_entry(uint8_t *out, size_t at, const Memory &g, size_t e) {
+    const size_t windows = g.n - 1;
+    const int32_t kind = e < windows ? 2 : e < 2 * windows ? 3 : e < g.fixed() ? 1 : 0;
+    const size_t first = kind == 2 ? 0 : kind == 3 ? windows : kind == 1 ? 2 * windows : g.fixed();
+    out[at] = 'E', out[at + 1] = 'D';
+    put_number(out, at + 2, kind);
+    put_number(out, at + 6, int32_t(e - first) + (kind >= 2 ? 1 : 0));
+}
+
+void put_answer(uint8_t *out, const Memory &g, int32_t period, const int32_t *row, size_t latencies, size_t entries) {
+    put_head(out, period, int32_t(latencies), int32_t(entries));
+    for (size_t i = 0; i < latencies; ++i) put_latency(out, i, row[i]);
+    for (size_t j = 0; j < entries; ++j) put_entry(out, 14 + 6 * latencies + 10 * j, g, g.ring[j]);
+}
+
+uint64_t climb(Memory &g, int32_t floor, int32_t ceiling, uint8_t *out) {
+    size_t kept = 0;
+    for (int32_t period = floor;;) {
+        for (size_t p = 0; p < g.m; ++p) g.amount[g.fixed() + p] = g.base[p] - period;
+        const Relaxed found = relax(g, g.fixed() + g.m);
+        if (!found.entries) {
+            put_answer(out, g, period, found.row, g.n, kept);
+            return 0;
+        }
+        kept = found.entries;
+        period = need(g, period, kept);
+        if (period > ceiling) {
+            put_answer(out, g, 0, nullptr, 0, kept);
+            return refusal(9);
+        }
+        ++counts.climbs;
+    }
+}
+
+} // namespace
+
+uint64_t plain_schedule(const uint8_t *file, size_t size, uint8_t *out, size_t room) {
+    const uint64_t fault = refused(file, size, room);
+    if (fault) return fault;
+    Memory g;
+    g.n = size_t(number_at(file, 2)), g.m = size_t(number_at(file, 6));
+    fill(file, g);
+    const Relaxed free = relax(g, g.fixed());
+    if (free.entries) {
+        put_answer(out, g, 0, nullptr, 0, free.entries);
+        return refusal(8);
+    }
+    return climb(g, number_at(file, 10), number_at(file, 14), out);
+}
