@@ -1,6 +1,7 @@
 // Pipelines and dense networks are drawn around a hidden schedule, so that their hold rules and windows can be met and the period decides.
-// Chains, rings and races hold one loop through every register: of setup rules with and without the host, and of hold rules whose
-// amounts add up to -1, 0 or 1, where 1 means refusal 8. Paths that cannot bind fill the list.
+// Chains, rings, decoys and races hold one loop through every register: of setup rules with the host, without it, and without it among
+// heavier paths that make no loop; and of hold rules whose amounts add up to -1, 0 or 1, where 1 means refusal 8. Paths that cannot bind
+// fill the list.
 #include "make.hpp"
 
 #include <algorithm>
@@ -121,6 +122,18 @@ File setup_loop(Rng &rng, int n, size_t wanted, bool with_host) {
     return draft.file();
 }
 
+// A ring, and a heavier path from the host to each of its registers. Nothing leads back to the host, so the heaviest paths make no loop.
+File decoy(Rng &rng, int n, size_t wanted) {
+    Draft draft = open(rng, n, wanted);
+    const std::vector<int> around = order(rng, n, false);
+    for (size_t k = 0; k < around.size(); ++k)
+        draft.paths.push_back({around[k], around[(k + 1) % around.size()], 500000, 500000 + rng.between(0, 500)});
+    for (int to : around) draft.paths.push_back({0, to, 500000, rng.between(550000, 600000)});
+    while (!draft.full()) draft.paths.push_back({rng.between(1, n - 1), rng.between(1, n - 1), 400000, rng.between(400000, 450000)});
+    if (rng.between(0, 1)) rng.shuffle(draft.paths);
+    return draft.file();
+}
+
 File race(Rng &rng, int n, size_t wanted) {
     Draft draft = open(rng, n, wanted);
     const std::vector<int> around = order(rng, n, rng.between(0, 1));
@@ -143,7 +156,7 @@ File race(Rng &rng, int n, size_t wanted) {
 } // namespace
 
 const std::vector<std::string> &shapes() {
-    static const std::vector<std::string> all{"pipeline", "dense", "chain", "race", "ring"};
+    static const std::vector<std::string> all{"pipeline", "dense", "chain", "race", "ring", "decoy"};
     return all;
 }
 
@@ -154,6 +167,7 @@ File make(const std::string &shape, int n, int paths, uint64_t seed) {
     if (shape == "dense") return dense(rng, n, wanted);
     if (shape == "chain") return setup_loop(rng, n, wanted, true);
     if (shape == "ring") return setup_loop(rng, n, wanted, false);
+    if (shape == "decoy") return decoy(rng, n, wanted);
     if (shape == "race") return race(rng, n, wanted);
     throw std::invalid_argument("no shape " + shape);
 }

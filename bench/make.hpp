@@ -9,6 +9,6 @@ using File = std::vector<uint8_t>;
 
 const std::vector<std::string> &shapes();
 
-// The network of this shape with n registers. Paths are 8 for each register, or as many as said; chain, race and ring keep at least the
-// paths of their loop.
+// The network of this shape with n registers and so many paths, at most 2,048. A dense network of up to 45 registers has a path for every
+// two of them instead; chain, race, ring and decoy keep at least the paths that make them what they are.
 File make(const std::string &shape, int n, int paths, uint64_t seed);

@@ -1,7 +1,9 @@
-// The module's design in plain C++: two rows, preds, settling after each round, and the need of a contradicting loop as the next period.
+// The module's design in plain C++: two rows, preds, settling after each round, the circle looked for from a register whose walk back
+// finds no end, a first loop of the heaviest arrows, and the need of a contradicting loop as the next period.
 // Nothing is proved here and nothing is tuned: it shows what the design costs when written without regard to a prover.
 #include "plain.hpp"
 
+#include <algorithm>
 #include <utility>
 
 #include "network.hpp"
@@ -59,14 +61,14 @@ bool turn_round(const Memory &g, size_t arrows, const int32_t *a, int32_t *b, ui
     return raised;
 }
 
-// Gives every register what its preds give it; false where some walk back along them finds no end.
-bool settle(const Memory &g, int32_t *row) {
+// Gives every register what its preds give it. Answers the first register whose walk back along them finds no end; n where all do.
+size_t settle(const Memory &g, int32_t *row) {
     uint8_t settled[256] = {};
     for (size_t s = 0; s < g.n; ++s) {
         size_t v = s, steps = 0;
         int64_t sum = 0;
         while (!settled[v] && g.pred[v] != kNone) {
-            if (steps++ > g.n) return false;
+            if (steps++ > g.n) return s;
             sum += g.amount[g.pred[v]];
             v = g.tail[g.pred[v]];
         }
@@ -78,7 +80,7 @@ bool settle(const Memory &g, int32_t *row) {
             time -= g.amount[g.pred[v]];
         }
     }
-    return true;
+    return g.n;
 }
 
 // The lowest register of the circle of preds that v is on.
@@ -88,26 +90,10 @@ size_t lowest_around(const Memory &g, size_t v) {
     return lowest;
 }
 
-// Where the circle starts that has the lowest register of all circles, as in the module. Each register is passed once, and those on circles
-// once more: `walk` tells on which walk a register was passed first.
-size_t circle_start(const Memory &g) {
-    uint16_t walk[256] = {};
-    size_t start = g.n;
-    for (size_t s = 0; s < g.n; ++s) {
-        size_t v = s;
-        while (!walk[v] && g.pred[v] != kNone) {
-            walk[v] = uint16_t(s + 1);
-            v = g.tail[g.pred[v]];
-        }
-        if (g.pred[v] == kNone || walk[v] != s + 1) continue;
-        const size_t lowest = lowest_around(g, v);
-        start = lowest < start ? lowest : start;
-    }
-    return start;
-}
-
-size_t list_circle(Memory &g) {
-    const size_t start = circle_start(g);
+// Lists the circle on which the walk back from s ends: as many steps as there are registers lead onto it.
+size_t list_circle(Memory &g, size_t s) {
+    for (size_t k = 0; k < g.n; ++k) s = g.tail[g.pred[s]];
+    const size_t start = lowest_around(g, s);
     size_t entries = 0, v = start;
     do {
         ++entries;
@@ -125,18 +111,43 @@ Relaxed relax(Memory &g, size_t arrows) {
     for (;;) {
         ++counts.rounds, counts.offers += arrows;
         if (!turn_round(g, arrows, from, to, g.pred)) return {to, 0};
-        if (!settle(g, to)) return {to, list_circle(g)};
+        const size_t stray = settle(g, to);
+        if (stray < g.n) return {to, list_circle(g, stray)};
         std::swap(from, to);
     }
 }
 
+int64_t total(const Memory &g, size_t entries) {
+    int64_t sum = 0;
+    for (size_t j = 0; j < entries; ++j) sum += g.amount[g.ring[j]];
+    return sum;
+}
+
 int32_t need(const Memory &g, int32_t period, size_t entries) {
-    int64_t over = 0, setups = 0;
-    for (size_t j = 0; j < entries; ++j) {
-        over += g.amount[g.ring[j]];
-        setups += g.ring[j] >= g.fixed();
-    }
+    const int64_t over = total(g, entries);
+    int64_t setups = 0;
+    for (size_t j = 0; j < entries; ++j) setups += g.ring[j] >= g.fixed();
     return period + int32_t((over + setups - 1) / setups);
+}
+
+void at_period(Memory &g, int32_t period) {
+    for (size_t p = 0; p < g.m; ++p) g.amount[g.fixed() + p] = g.base[p] - period;
+}
+
+// A loop of the heaviest setup arrows, in `ring`, that contradicts itself: how many entries it has, or none.
+size_t guess(Memory &g) {
+    for (size_t v = 0; v < g.n; ++v) g.pred[v] = kNone;
+    for (size_t e = g.fixed(); e < g.fixed() + g.m; ++e) {
+        const size_t v = g.head[e];
+        if (g.pred[v] == kNone || g.amount[g.pred[v]] < g.amount[e]) g.pred[v] = uint16_t(e);
+    }
+    size_t v = g.n - 1;
+    for (size_t k = 0; k <= g.n; ++k) {
+        if (g.pred[v] == kNone) return 0;
+        v = g.tail[g.pred[v]];
+    }
+    const size_t entries = list_circle(g, g.n - 1);
+    return total(g, entries) > 0 ? entries : 0;
 }
 
 void put_entry(uint8_t *out, size_t at, const Memory &g, size_t e) {
@@ -155,9 +166,12 @@ void put_answer(uint8_t *out, const Memory &g, int32_t period, const int32_t *ro
 }
 
 uint64_t climb(Memory &g, int32_t floor, int32_t ceiling, uint8_t *out) {
-    size_t kept = 0;
-    for (int32_t period = floor;;) {
-        for (size_t p = 0; p < g.m; ++p) g.amount[g.fixed() + p] = g.base[p] - period;
+    at_period(g, floor);
+    size_t kept = guess(g);
+    if (floor >= ceiling) kept = 0;
+    counts.climbs += kept > 0;
+    for (int32_t period = kept ? std::min(need(g, floor, kept), ceiling) : floor;;) {
+        at_period(g, period);
         const Relaxed found = relax(g, g.fixed() + g.m);
         if (!found.entries) {
             put_answer(out, g, period, found.row, g.n, kept);

@@ -1,19 +1,19 @@
 -- The entries written one after the other: the loop's invariant and its laws, for every network with the counts at hand.
-use mathlib.Core.Path.{_≡_, refl, ap, _∙_}
-use mathlib.Core.List.{List, [], _∷_, _++_, map, append-nil}
+use mathlib.Core.Path.{_≡_, refl, sym, ap, _∙_}
+use mathlib.Core.List.{List, [], _∷_, _++_, map, append-assoc, append-nil}
 use Prim.Native.Nat.{ℕ, suc, _+_, _*_, _≤_, _<_}
 use native.Mathlib.Omega.{arith}
 use native.Mathlib.Numerals.{add-one}
 use lib.IntN.{ℤ, pos}
 use lib.ListN.{length, getD, take, length-map}
 use lib.Seq.{sets, length-sets, take-suc, length-take-le}
+use Rattle.whole.proofs.Stores.{stores-then}
 use Rattle.paper.specs.Network.{Network}
 use Rattle.paper.specs.Rules.{Rule, kind, number}
 use Rattle.paper.specs.Output.{entryRecord, entryRecords}
+use Rattle.paper.proofs.OutputLaws.{entries-length}
 use Rattle.loops.specs.Layout.{ruleAt}
 use Rattle.answer.specs.Records.{entryBytes}
-use Rattle.answer.proofs.Runs.{then}
-use Rattle.answer.proofs.Lengths.{entries-length, entries-append}
 
 -- the rules at the first places of a list
 abbrev pub listed : Network → List ℕ → ℕ → List Rule
@@ -29,6 +29,11 @@ map-append {B} f (x ∷ l) k = ap {B = List B} (λ r. f x ∷ r) (map-append f l
 pub listed-more : (N : Network) (ring : List ℕ) (j : ℕ) → j < length ring
     → listed N ring (suc j) ≡ listed N ring j ++ (ruleAt N (getD ring j 0) ∷ [])
 listed-more N ring j h = rw (take-suc ring j 0) (map-append (ruleAt N) (take j ring) (getD ring j 0 ∷ []))
+
+entries-append : (l k : List Rule) → entryRecords (l ++ k) ≡ entryRecords l ++ entryRecords k
+entries-append [] k = refl
+entries-append (r ∷ l) k =
+    ap (λ (bs : List ℕ). entryRecord r ++ bs) (entries-append l k) ∙ sym (append-assoc (entryRecord r) (entryRecords l) (entryRecords k))
 
 -- the records of the first j entries stand in the output from the place on, and nothing else changed
 pub record Entered (n m at : ℕ) (ring : List ℕ) (entries : ℕ) (before out : List ℕ) (j : ℕ) : Type 0 where
@@ -59,7 +64,7 @@ module _ (n m at : ℕ) (ring : List ℕ) (entries : ℕ) (before : List ℕ) wh
           let l = listed N ring j in
           let r = ruleAt N (getD ring j 0) in
           let room : at + length (entryRecords l) ≡ at + 10 * j = omega (arith, entries-length l, listed-length N ring j (omega arith)) in
-          then (entryRecords l) (entryRecord r) before at (at + 10 * j) room
+          stores-then (entryRecords l) (entryRecord r) before at (at + 10 * j) room
           ∙ rw (add-one, listed-more N ring j (omega arith), entries-append l (r ∷ []), append-nil (entryRecord r)) refl
 
   pub entered-all : (out : List ℕ) (j : ℕ) → Entered n m at ring entries before out j → entries ≤ j

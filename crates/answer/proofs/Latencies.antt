@@ -7,9 +7,9 @@ use native.Mathlib.Numerals.{add-one}
 use lib.IntN.{ℤ, pos}
 use lib.ListN.{length, getD}
 use lib.Seq.{sets, length-sets}
+use Rattle.whole.proofs.Stores.{stores-then}
 use Rattle.paper.specs.Output.{latencyRecord, latencyRecords}
-use Rattle.answer.proofs.Runs.{then}
-use Rattle.answer.proofs.Lengths.{latencies-length}
+use Rattle.paper.proofs.OutputLaws.{latencies-length}
 
 -- the latencies of the first i registers of n stand in the output, and nothing else changed
 pub record Timed (row : List ℤ) (n : ℕ) (before out : List ℕ) (i : ℕ) : Type 0 where
@@ -31,7 +31,7 @@ module _ (row : List ℤ) (n : ℕ) (before : List ℕ) where
         is =
             e
             ∙ rw (t .is, f, add-one)
-            (then (latencyRecords (λ k. getD row k (pos 0)) i) (latencyRecord (getD row i (pos 0))) before 14 (14 + 6 * i)
+            (stores-then (latencyRecords (λ k. getD row k (pos 0)) i) (latencyRecord (getD row i (pos 0))) before 14 (14 + 6 * i)
             (omega (arith, latencies-length (λ k. getD row k (pos 0)) i)));
       }
 

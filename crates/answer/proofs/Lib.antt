@@ -1,6 +1,4 @@
 -- Laws of the answer's bytes. For callers: Callers, and `listed` of Entries.
-pub mod Runs
-pub mod Lengths
 pub mod Written
 pub mod Rules
 pub mod Latencies

@@ -8,10 +8,10 @@ use lib.IntN.{ℤ}
 use lib.ListN.{length, set, length-append, length-set}
 use lib.Seq.{sets}
 use Rattle.whole.specs.Four.{four}
+use Rattle.whole.proofs.Four.{four-length}
+use Rattle.whole.proofs.Stores.{stores-then}
 use Rattle.paper.specs.Output.{latencyRecord}
 use Rattle.answer.specs.Records.{skewBytes, entryBytes}
-use Rattle.answer.proofs.Runs.{then}
-use Rattle.answer.proofs.Lengths.{four-length}
 
 pub marks-long : (l : List ℕ) (i j a b : ℕ) → length (set (set l i a) j b) ≡ length l
 marks-long l i j a b = simp length-set
@@ -29,7 +29,7 @@ pub entry-written : (l mid after : List ℕ) (at : ℕ) (x x′ y y′ : ℤ)
 entry-written l mid after at x x′ y y′ g e h f =
     h
     ∙ rw (g, e, f, add-one, add-two)
-    (then (four x) (four y) (set (set l at 69) (suc at) 68) (suc (suc at)) (at + 6) (omega (arith, four-length x)))
+    (stores-then (four x) (four y) (set (set l at 69) (suc at) 68) (suc (suc at)) (at + 6) (omega (arith, four-length x)))
 
 pub skew-written : (l mid far after : List ℕ) (x x′ y y′ z z′ : ℤ)
     → mid ≡ sets (set (set l 0 83) 1 75) 2 (four x′) → x′ ≡ x
@@ -39,7 +39,7 @@ pub skew-written : (l mid far after : List ℕ) (x x′ y y′ z z′ : ℤ)
 skew-written l mid far after x x′ y y′ z z′ g e h f k d =
     let marked = set (set l 0 83) 1 75 in
     let two : far ≡ sets marked 2 (four x ++ four y) =
-    h ∙ rw (g, e, f) (then (four x) (four y) marked 2 6 (omega (arith, four-length x))) in
+    h ∙ rw (g, e, f) (stores-then (four x) (four y) marked 2 6 (omega (arith, four-length x))) in
     k
     ∙ rw (two, d)
-    (then (four x ++ four y) (four z) marked 2 10 (omega (arith, length-append (four x) (four y), four-length x, four-length y)))
+    (stores-then (four x ++ four y) (four z) marked 2 10 (omega (arith, length-append (four x) (four y), four-length x, four-length y)))

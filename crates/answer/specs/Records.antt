@@ -1,24 +1,15 @@
 -- The records over whole numbers, as the code has them: at numbers that are not negative they are the paper's records.
-use mathlib.Core.Path.{_≡_, refl}
 use mathlib.Core.List.{List, _∷_, _++_}
 use Prim.Native.Nat.{ℕ, _+_, _-_, _*_, _≤_, _<_}
-use lib.IntN.{ℤ, pos}
+use lib.IntN.{ℤ}
 use lib.ListN.{length, getD}
 use Rattle.whole.specs.Four.{four}
-use Rattle.paper.specs.Rules.{Rule, kind, number}
-use Rattle.paper.specs.Output.{skewRecord, entryRecord}
 
 abbrev pub skewBytes : ℤ → ℤ → ℤ → List ℕ
 skewBytes period latencies entries = 83 ∷ 75 ∷ (four period ++ four latencies ++ four entries)
 
 abbrev pub entryBytes : ℤ → ℤ → List ℕ
 entryBytes kind number = 69 ∷ 68 ∷ (four kind ++ four number)
-
-pub skew-is : (period latencies entries : ℕ) → skewBytes (pos period) (pos latencies) (pos entries) ≡ skewRecord period latencies entries
-skew-is period latencies entries = refl
-
-pub entry-is : (r : Rule) → entryBytes (pos (kind r)) (pos (number r)) ≡ entryRecord r
-entry-is r = refl
 
 -- e is the place of a rule of a network with n registers and m paths, within the limits of a file
 pub record Placed (n m e : ℕ) : Type 0 where

@@ -10,10 +10,10 @@ use Rattle.paper.specs.Network.{Network}
 use Rattle.paper.specs.Rules.{base}
 use Rattle.paper.specs.Rules.{amount as ruleAmount}
 use Rattle.paper.proofs.Legal.{Between, Legal}
-use Rattle.loops.specs.Arrows.{Arrows, Sound, Windowed, amount}
+use Rattle.loops.specs.Arrows.{Arrows, Sound, Windowed, arrows, amount}
 use Rattle.loops.specs.Layout.{windows, fixedCount, ruleCount, ruleAt, Lays}
 use Rattle.loops.proofs.Places.{rule-cases, laid-exists, lays-sound, lays-windowed, legal-joined}
-use Rattle.arrows.specs.Filled.{arrows, Filled}
+use Rattle.arrows.specs.Filled.{Filled}
 use Rattle.arrows.proofs.Amounts.{amount-modest}
 
 -- ---- the counts as a caller has them

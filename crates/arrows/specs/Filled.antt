@@ -7,13 +7,8 @@ use lib.IntN.{ℤ, pos}
 use lib.Signed.{_≤ℤ_}
 use Rattle.paper.specs.Network.{Network}
 use Rattle.paper.specs.Rules.{Setup, tail, head, base}
-use Rattle.loops.specs.Arrows.{Arrows}
+use Rattle.loops.specs.Arrows.{arrows}
 use Rattle.loops.specs.Layout.{fixedCount, ruleCount, ruleAt, Lays}
-
--- the first `count` places of three lists as arrows
-abbrev pub arrows : ℕ → ℕ → List ℕ → List ℕ → List ℤ → Arrows
-arrows registers count tails heads amounts =
-    record { registers = registers; count = count; tails = tails; heads = heads; amounts = amounts }
 
 -- the lists are long enough for every rule
 pub record Room (N : Network) (tails heads : List ℕ) (amounts : List ℤ) : Type 0 where

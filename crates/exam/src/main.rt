@@ -4,6 +4,9 @@
 //   S room length file                            -> number place, then the `room` bytes of the output
 //   Q period kind number tail head length file    -> number place, then 1 for yes and 0 for anything else
 //
+// A room above 8,192 is held to 8,192 and a file to 65,536 bytes; what a longer request has beyond that is read as the next request, so
+// whoever asks keeps within them.
+//
 // Before a file is scheduled, byte i of the output is (7 i + 165) % 256, so that what is left untouched can be told.
 ghost use Prim.Native.Nat.{_≤_};
 use libc::STDOUT_FILENO;

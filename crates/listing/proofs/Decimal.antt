@@ -9,8 +9,6 @@ use lib.IntN.{ℤ, pos, negsuc}
 use lib.Dec.{ltb}
 use lib.ListN.{length, getD, length-append, List·getD-append}
 use borrow.Author.Tests.{ltb-true, ltb-false, lt-ltb, le-ltb}
-use mir.Syntax.{w32}
-use mir.Val.{SFits}
 use Rattle.listing.specs.Decimal.{digits, decimal, whole, reading}
 
 -- ---- one digit, and more than one
@@ -150,8 +148,3 @@ decimal-ten-long n h = decimal-few n 9 (omega arith)
 
 pub decimal-twenty-long : (n : ℕ) → n < 18446744073709551616 → length (decimal n) ≤ 20
 decimal-twenty-long n h = decimal-few n 19 (omega arith)
-
-pub whole-eleven-long : (z : ℤ) → SFits w32 z → length (whole z) ≤ 11
-unfolding whole
-whole-eleven-long (pos n) h = omega (arith, decimal-ten-long n (omega (arith, h .sfits)))
-whole-eleven-long (negsuc n) h = omega (arith, decimal-ten-long (suc n) (omega (arith, h .sfits)))

@@ -1,18 +1,16 @@
 -- Parts of the text that follow one another are one part, and a part from the start on stands at the front.
 use mathlib.Core.Path.{_≡_, refl, sym, ap, _∙_}
 use mathlib.Core.List.{List, [], _∷_, _++_}
-use Prim.Native.Nat.{ℕ, suc, _+_, _≤_, _<_}
+use Prim.Native.Nat.{ℕ, _+_, _≤_, _<_}
 use native.Mathlib.Omega.{arith}
-use native.Mathlib.Nat.{zero-add, add-zero}
+use native.Mathlib.Nat.{add-zero}
 use native.Mathlib.Numerals.{add-one}
 use lib.ListN.{length, getD, take, set, length-append, length-set}
-use lib.Seq.{sets, sets-eq, length-sets, take-suc, length-take-le, take-all}
+use lib.Seq.{sets, length-sets, take-suc, length-take-le, take-all}
+use Rattle.whole.proofs.Stores.{stores-then}
 use Rattle.paper.specs.Output.{Front}
+use Rattle.paper.proofs.OutputLaws.{stored-front}
 use Rattle.listing.specs.Text.{Written}
-
-runs : {A : Type 0} (a b l : List A) (i j : ℕ) → i + length a ≡ j → sets (sets l i a) j b ≡ sets l i (a ++ b)
-runs [] b l i j e = let k : j ≡ i = omega arith in rw k refl
-runs (x ∷ a) b l i j e = runs a b (set l i x) (suc i) j (omega arith)
 
 module _ {before mid : List ℕ} {at next : ℕ} {a : List ℕ} (w : Written before at a mid next) where
   -- as long as before
@@ -23,7 +21,7 @@ module _ {before mid : List ℕ} {at next : ℕ} {a : List ℕ} (w : Written bef
   pub and-then : {b after : List ℕ} {end : ℕ} → Written mid next b after end → Written before at (a ++ b) after end
   and-then {b} {after} {end} v =
       record {
-        text = v .text ∙ rw (w .text) (runs a b before at next (sym (w .place)));
+        text = v .text ∙ rw (w .text) (stores-then a b before at next (sym (w .place)));
         place = let p = w .place in let q = v .place in rw (length-append a b) (omega arith);
       }
 
@@ -47,7 +45,7 @@ named {before} {after} {a} {b} {at} {end} w e = rw e at w
 pub front : {before after bytes : List ℕ} {end : ℕ} → Written before 0 bytes after end → length bytes ≤ length before
     → (Front bytes before after) × (end ≡ length bytes)
 front {before} {after} {bytes} {end} w h =
-    (w .text ∙ sets-eq bytes before 0 (omega arith) ∙ rw zero-add refl, let p = w .place in omega arith)
+    (w .text ∙ stored-front bytes before h, let p = w .place in omega arith)
 
 -- ---- a byte string copied byte by byte
 
@@ -67,7 +65,7 @@ module _ (s before : List ℕ) (at : ℕ) where
         within = omega arith;
         is =
             rw (c .is, add-one, take-suc s i 0 h)
-            (runs (take i s) (getD s i 0 ∷ []) before at (at + i) (omega (arith, length-take-le i s (omega arith))));
+            (stores-then (take i s) (getD s i 0 ∷ []) before at (at + i) (omega (arith, length-take-le i s (omega arith))));
         same = length-set after (at + i) (getD s i 0) ∙ c .same;
       }
 

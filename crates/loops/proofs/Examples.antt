@@ -7,7 +7,7 @@ use native.Mathlib.Omega.{arith}
 use lib.IntN.{ℤ, pos, negsuc}
 use Rattle.whole.proofs.Lin.{lin}
 use Rattle.loops.specs.Arrows.{Arrows, Sound, Windowed, Window, tail, head}
-use Rattle.loops.specs.Model.{table, pass, step, round, worth, rooted, rootedBelow, settled, back, trail, around, circleFrom}
+use Rattle.loops.specs.Model.{table, pass, step, round, worth, rooted, rootedBelow, settled, back, trail, around, lowest, strayBelow}
 use Rattle.loops.specs.Model.{firstTime, firstRow, firstPred, firstPreds, Ending, Rested, Circled, relax}
 
 -- the arrows ask `to` of the way from 1 to 2, and `fro` of the way back
@@ -26,17 +26,17 @@ relaxed Γ = relax Γ 30 (firstRow Γ) (firstPreds Γ (Γ .count))
 
 -- register 2 has to lie 5 above register 1, and 1 no more than 6 below 2
 rests : relaxed (three (pos 5) (negsuc 5)) ≡ Rested (pos 0 ∷ pos 0 ∷ pos 5 ∷ [])
-unfolding relax round pass step settled worth rootedBelow rooted circleFrom around trail back table firstRow firstTime firstPreds firstPred
+unfolding relax round pass step settled worth rootedBelow rooted strayBelow lowest around trail back table firstRow firstTime firstPreds firstPred
 rests = refl
 
 -- 5 above, and no more than 4 below: the two arrows contradict each other, listed from register 1
 circles : relaxed (three (pos 5) (negsuc 3)) ≡ Circled (4 ∷ 5 ∷ [])
-unfolding relax round pass step settled worth rootedBelow rooted circleFrom around trail back table firstRow firstTime firstPreds firstPred
+unfolding relax round pass step settled worth rootedBelow rooted strayBelow lowest around trail back table firstRow firstTime firstPreds firstPred
 circles = refl
 
 -- 11 above leaves the window: the loop goes from the host by register 1 and register 2 back to the host
 leaves-window : relaxed (three (pos 11) (negsuc 20)) ≡ Circled (0 ∷ 4 ∷ 3 ∷ [])
-unfolding relax round pass step settled worth rootedBelow rooted circleFrom around trail back table firstRow firstTime firstPreds firstPred
+unfolding relax round pass step settled worth rootedBelow rooted strayBelow lowest around trail back table firstRow firstTime firstPreds firstPred
 leaves-window = refl
 
 -- these networks are sound, and each register has its window

@@ -1,6 +1,5 @@
 pub mod Below
 pub mod Bind
-pub mod Least
 pub mod Pigeonhole
 pub mod Grounded
 pub mod Rooted

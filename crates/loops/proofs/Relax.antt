@@ -10,10 +10,11 @@ use lib.ListN.{length}
 use lib.IntN.{ℤ}
 use Rattle.paper.specs.Chains.{Listed}
 use Rattle.loops.specs.Arrows.{Arrows, Sound, Schedule, Least, Contradicts, Windowed, tail, head}
-use Rattle.loops.specs.Model.{at, round, rowAfter, predsAfter, allRooted, settled, circle, circleArrows}
+use Rattle.loops.specs.Model.{at, round, rowAfter, predsAfter, rooted, allRooted, stray, settled, circleFrom, circleArrows}
 use Rattle.loops.specs.Model.{firstRow, firstPreds, Ending, Rested, Circled, Unended, relax}
 use Rattle.loops.specs.Forest.{Tight, gap}
 use Rattle.loops.proofs.Bind.{schedule-no-loop}
+use Rattle.loops.proofs.Rooted.{stray-some}
 use Rattle.loops.proofs.Search.{circle-found}
 use Rattle.loops.proofs.First.{first-tight}
 use Rattle.loops.proofs.Kept.{tight-books, round-quiet, rested-least}
@@ -26,13 +27,13 @@ use Rattle.loops.proofs.Ends.{gap-falls}
 pub relax-cases : (P : Ending → Type 0) (Γ : Arrows) (fuel : ℕ) (a : List ℤ) (p : List ℕ)
     → (round Γ a p .raised ≡ false → P (Rested (rowAfter Γ a p)))
     → (round Γ a p .raised ≡ true → allRooted Γ (predsAfter Γ a p) ≡ true → P (relax Γ fuel (settled Γ (predsAfter Γ a p)) (predsAfter Γ a p)))
-    → (round Γ a p .raised ≡ true → allRooted Γ (predsAfter Γ a p) ≡ false → P (Circled (circleArrows Γ (predsAfter Γ a p))))
+    → (round Γ a p .raised ≡ true → allRooted Γ (predsAfter Γ a p) ≡ false → P (Circled (circleArrows Γ (predsAfter Γ a p) (stray Γ (predsAfter Γ a p)))))
     → P (relax Γ (suc fuel) a p)
 unfolding relax
 relax-cases P Γ fuel a p rested on circled = go (round Γ a p .raised) refl
   where
     more : Bool → Ending
-    more g = elim g as (λ x. Ending) [ true ↦ relax Γ fuel (settled Γ (predsAfter Γ a p)) (predsAfter Γ a p) | false ↦ Circled (circleArrows Γ (predsAfter Γ a p)) ]
+    more g = elim g as (λ x. Ending) [ true ↦ relax Γ fuel (settled Γ (predsAfter Γ a p)) (predsAfter Γ a p) | false ↦ Circled (circleArrows Γ (predsAfter Γ a p) (stray Γ (predsAfter Γ a p))) ]
 
     after : round Γ a p .raised ≡ true → (g : Bool) → allRooted Γ (predsAfter Γ a p) ≡ g → P (more g)
     after q true e = on q e
@@ -54,10 +55,10 @@ module _ (Γ : Arrows) (a : List ℤ) (p : List ℕ) (s : Sound Γ) (t : Tight �
   rested-ends q = (tight-books Γ a p s t .row-length, rw (round-quiet Γ a p s t q .row-same) (rested-least Γ a p s t q))
 
   -- a register that is not rooted: the circle that the search finds is a contradicting loop, listed from its lowest register
-  pub circled-ends : allRooted Γ (predsAfter Γ a p) ≡ false → Ended Γ (Circled (circleArrows Γ (predsAfter Γ a p)))
-  circled-ends q =
-      let f = circle-found Γ (predsAfter Γ a p) s q in
-      let c = circle Γ (predsAfter Γ a p) in
+  pub circled-ends : (u : ℕ) → u < Γ .registers → rooted Γ (predsAfter Γ a p) (Γ .registers) u ≡ false → Ended Γ (Circled (circleArrows Γ (predsAfter Γ a p) u))
+  circled-ends u b q =
+      let f = circle-found Γ (predsAfter Γ a p) s u b q in
+      let c = circleFrom Γ (predsAfter Γ a p) u in
       (circle-contradicts Γ a p s t (c .steps) (c .start) (f .below) (f .circle), circle-listed Γ (predsAfter Γ a p) (c .steps) (c .start) (f .circle))
 
 -- a row that is the least schedule, or a loop that contradicts itself, listed from its lowest register
@@ -71,7 +72,7 @@ module _ (Γ : Arrows) (H : ℕ) (s : Sound Γ) (w : Windowed Γ H) where
   relax-ends zero a p t g = absurd (omega arith)
   relax-ends (suc fuel) a p t g = relax-cases (Ended Γ) Γ fuel a p (rested-ends Γ a p s t)
       (λ q r. let less = gap-falls Γ H s w a p t q r in relax-ends fuel (settled Γ (predsAfter Γ a p)) (predsAfter Γ a p) (settled-tight Γ a p s t r) (omega arith))
-      (λ q r. circled-ends Γ a p s t r)
+      (λ q r. let u = stray-some Γ (predsAfter Γ a p) (Γ .registers) r in circled-ends Γ a p s t (stray Γ (predsAfter Γ a p)) (u .0) (u .1))
 
   -- From the first row, with fuel enough.
   pub first-ends : (none fuel : ℕ) → Γ .count ≤ none → gap Γ H (firstRow Γ) < fuel → Ended Γ (relax Γ fuel (firstRow Γ) (firstPreds Γ none))

@@ -7,14 +7,14 @@ use Prim.Native.Nat.{ℕ, _≤_}
 use lib.IntN.{ℤ}
 use Rattle.paper.specs.Rules.{Rule}
 use Rattle.paper.specs.File.{networkOf}
-use Rattle.paper.specs.Schedule.{IsLoop, Contradicts, Refutes, Answer, setups}
+use Rattle.paper.specs.Schedule.{IsLoop, Contradicts, Answer, setups}
 use Rattle.paper.specs.Refusals.{Accepted, Scheduled, NoPeriod, NoneToCeiling}
 use Rattle.paper.proofs.Legal.{accepted-legal}
 use Rattle.loops.specs.Layout.{Joined}
-use Rattle.loops.specs.Needs.{LeastSchedule, RefutesAlways, GreatestNeed}
+use Rattle.loops.specs.Needs.{GreatestNeed}
 use Rattle.loops.proofs.Places.{legal-joined}
 use Rattle.loops.proofs.Climb.{answered-or-none}
-use Rattle.loops.proofs.Feasible.{least-or-refutes, period-or-refutes, scheduled-iff, no-period-is}
+use Rattle.loops.proofs.Feasible.{scheduled-iff, no-period-is}
 use Rattle.loops.proofs.NeedLaws.{answer-greatest-need, greatest-need-answer}
 -- of every network: a schedule at P is one at every longer period
 pub use Rattle.loops.proofs.Feasible.{scheduled-stays}
@@ -42,16 +42,6 @@ period-is-greatest-need f a = answer-greatest-need (networkOf f) (accepted-joine
 pub answer-from-need : (f : List ℕ) → Accepted f → (P : ℕ) → (NoPeriod (networkOf f) → ⊥) → GreatestNeed (networkOf f) P → P ≤ networkOf f .ceiling
     → (x : ℕ → ℤ) × Answer (networkOf f) P x
 answer-from-need f a = greatest-need-answer (networkOf f) (accepted-joined f a)
-
--- The two cases that the search for the period rests on. At a period: the least schedule, or a loop that contradicts itself.
-pub schedule-or-refutes : (f : List ℕ) → Accepted f → (P : ℕ) → 1 ≤ P
-    → ((x : ℕ → ℤ) × LeastSchedule (networkOf f) P x) ⊎ ((l : List Rule) × Refutes (networkOf f) P l)
-schedule-or-refutes f a P b = least-or-refutes (networkOf f) (accepted-joined f a) P
-
--- At any period at all: one that has a schedule, or a loop without setup rules that contradicts itself.
-pub scheduled-or-refutes-always : (f : List ℕ) → Accepted f
-    → ((P : ℕ) × (1 ≤ P) × Scheduled (networkOf f) P) ⊎ ((l : List Rule) × RefutesAlways (networkOf f) l)
-scheduled-or-refutes-always f a = period-or-refutes (networkOf f) (accepted-joined f a)
 
 -- The answer and refusals 8 and 9 leave nothing out: no period has a schedule, or some have and none up to the ceiling, or there is an answer.
 pub answer-or-none : (f : List ℕ) → Accepted f

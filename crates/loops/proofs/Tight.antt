@@ -1,6 +1,5 @@
 -- Tight: the row is exactly what the preds give. A tight row lies below every schedule, by induction on the depth in the forest; no history
 -- is needed. Rests on the order of ℤ.
-use mathlib.Core.Path.{_≡_}
 use mathlib.Core.List.{List}
 use Prim.Native.Nat.{ℕ, zero, suc, _≤_, _<_}
 use native.Mathlib.Omega.{arith}
@@ -31,9 +30,6 @@ host-no-pred Γ p s f = go (decLt (pred p 0) (Γ .count)) (f .grounded 0 (s .som
     go (no q) g = omega arith
 
 module _ (Γ : Arrows) (x : List ℤ) (p : List ℕ) (s : Sound Γ) (t : Tight Γ x p) where
-  pub tight-host : Γ .count ≤ pred p 0
-  tight-host = host-no-pred Γ p s (t .forest)
-
   -- At depth 0 stands the host alone, at 0. Deeper, y v is at least y at the tail and the amount, so at least x at the tail and the amount.
   deep-below : (y : ℕ → ℤ) → Schedule Γ y → (d v : ℕ) → v < Γ .registers → Deep Γ p d v → at x v ≤ℤ y v
   deep-below y sy zero zero b h = let ex = t .host in let ey = sy .host in omega lin

@@ -5,7 +5,6 @@ use mathlib.Core.Logic.{_↔_}
 use mathlib.Core.List.{List, [], _∷_, map}
 use Prim.Native.Nat.{ℕ, suc, _+_, _≤_, _<_}
 use native.Mathlib.Omega.{arith}
-use lib.ListN.{length, length-map}
 use lib.IntN.{ℤ, pos, _+ℤ_, _-ℤ_}
 use lib.Signed.{_≤ℤ_}
 use Rattle.whole.specs.Sums.{total}
@@ -16,11 +15,11 @@ use Rattle.paper.specs.Rules.{tail as ruleTail, head as ruleHead, amount as rul
 use Rattle.paper.specs.Chains.{All, Listed}
 use Rattle.paper.specs.Schedule.{Schedule, Refutes, setups}
 use Rattle.paper.proofs.RuleLaws.{arrow-is-rule}
+use Rattle.paper.proofs.LoopLaws.{all-map}
 use Rattle.loops.specs.Arrows.{Arrows, Contradicts, Least, tail, head, amount}
 use Rattle.loops.specs.Arrows.{Schedule as ArrowSchedule}
 use Rattle.loops.specs.Layout.{fixedCount, ruleCount, ruleAt, placeOf, Lays}
 use Rattle.loops.specs.Needs.{LeastSchedule, RefutesAlways}
-use Rattle.loops.proofs.Bind.{all-map}
 use Rattle.loops.proofs.Places.{rule-fixed, place-rule, place-below, place-fixed, laid-exists, lays-fixed}
 use Rattle.loops.proofs.Renamed.{Alike, renamed-all, renamed-loop, renamed-listed, renamed-total}
 use Rattle.loops.proofs.Greatest.{greatest, greatest-over}
@@ -76,10 +75,6 @@ module _ (N : Network) (P : ℕ) (Γ : Arrows) (y : Lays N P Γ) where
         listed = renamed-listed (tail Γ) (head Γ) (ruleTail N) (ruleHead N) (ruleAt N) l alike s;
         contradicts = rw (← loop-total l (c .exist)) (c .above);
       }
-
--- the loop of rules is as long as the loop of arrows
-pub loop-length : (N : Network) (l : List ℕ) → length (map (ruleAt N) l) ≡ length l
-loop-length N l = length-map l (ruleAt N)
 
 -- a list's setup rules are the first rule's and the rest's
 pub setups-cons : (r : Rule) (l : List Rule) → setups (r ∷ l) ≡ setups (r ∷ []) + setups l
@@ -137,10 +132,6 @@ module _ (N : Network) (P : ℕ) (Γ : Arrows) (y : Lays N P Γ) (c : Γ .count 
 
   pub fixed-scheduled : (x : ℕ → ℤ) → ArrowSchedule Γ x → (Q : ℕ) × (1 ≤ Q) × Schedule N Q x
   fixed-scheduled x s = (longEnough N x, longEnough-from N x, fixed-schedule x s)
-
-  -- and a schedule of the network at whatever period is one of the prefix
-  pub schedule-fixed : (Q : ℕ) (x : ℕ → ℤ) → Schedule N Q x → ArrowSchedule Γ x
-  schedule-fixed Q x s = schedule-arrows N Q Γ (lays-fixed N P Γ y Q (omega arith)) x s
 
   -- a loop of the prefix has no setup rule, so that it contradicts itself at every period
   pub fixed-refutes : (l : List ℕ) → Contradicts Γ l → Listed (tail Γ) (head Γ) l → RefutesAlways N (map (ruleAt N) l)

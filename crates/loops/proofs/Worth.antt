@@ -11,13 +11,12 @@ use lib.Seq.{ext-getD}
 use borrow.Author.Tests.{lt-ltb, le-ltb}
 use lib.IntN.{ℤ, pos, _+ℤ_}
 use lib.Signed.{_≤ℤ_}
-use Rattle.whole.proofs.Lin.{lin, plus}
-use Rattle.whole.specs.Sums.{total}
+use Rattle.whole.proofs.Lin.{lin}
 use Rattle.loops.specs.Arrows.{Arrows, Sound, tail, amount}
-use Rattle.loops.specs.Model.{at, pred, worth, settled, back, trail}
-use Rattle.loops.specs.Forest.{Deep, Forest, Tight, Arrowed}
+use Rattle.loops.specs.Model.{at, pred, worth, settled}
+use Rattle.loops.specs.Forest.{Deep, Forest, Tight}
 use Rattle.loops.proofs.Table.{table-length, table-at}
-use Rattle.loops.proofs.Grounded.{deep-short, back-below}
+use Rattle.loops.proofs.Grounded.{deep-short}
 use Rattle.loops.proofs.Tight.{host-no-pred}
 
 module _ (Γ : Arrows) (p : List ℕ) where
@@ -92,18 +91,6 @@ module _ (Γ : Arrows) (p : List ℕ) (s : Sound Γ) (f : Forest Γ p) where
       let same : at (settled Γ p) v ≡ worth Γ p (g .0) v = settled-at Γ p v b ∙ worth-deep Γ p (g .0) (Γ .registers) v (g .1) (omega arith) in
       let deeper : g .0 ≤ Γ .registers - 1 = omega arith in
       omega (lin, mul-le-mul-right A deeper)
-
--- Along k steps back a tight row changes by the amounts of the arrows on the way.
-pub tight-along : (Γ : Arrows) (x : List ℤ) (p : List ℕ) → Sound Γ → Tight Γ x p → (k v : ℕ) → v < Γ .registers → Arrowed Γ p k v
-    → at x v ≡ (at x (back Γ p k v) +ℤ total (amount Γ) (trail Γ p k v))
-unfolding back trail
-tight-along Γ x p s t zero v b arrows = omega lin
-tight-along Γ x p s t (suc k) v b arrows =
-    let before : Arrowed Γ p k v = λ j q. arrows j (omega arith) in
-    let u = back Γ p k v in
-    let ih = tight-along Γ x p s t k v b before in
-    let here = t .exact u (back-below Γ p s k v b before) (arrows k (omega arith)) in
-    omega (lin, plus (amount Γ (pred p u)) (total (amount Γ) (trail Γ p k v)))
 
 -- A tight row is the only one that its preds give: the settled row.
 pub tight-settled : (Γ : Arrows) (x : List ℤ) (p : List ℕ) → Sound Γ → Tight Γ x p → x ≡ settled Γ p

@@ -17,6 +17,11 @@ pub record Arrows : Type 0 where
   pub heads : List ℕ
   pub amounts : List ℤ
 
+-- the first `count` places of three lists as arrows
+abbrev pub arrows : ℕ → ℕ → List ℕ → List ℕ → List ℤ → Arrows
+arrows registers count tails heads amounts =
+    record { registers = registers; count = count; tails = tails; heads = heads; amounts = amounts }
+
 -- the register that arrow e leaves
 abbrev pub tail : Arrows → ℕ → ℕ
 tail Γ e = getD (Γ .tails) e 0

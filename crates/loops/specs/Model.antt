@@ -1,6 +1,5 @@
 -- One relaxation, as functions on lists that step in the order of the code's loops: a round over all arrows, settling the forest of preds,
 -- the search for a circle among them, and the rounds one after another.
-use mathlib.Core.Path.{_≡_}
 use mathlib.Core.Bool.{Bool, true, false}
 use mathlib.Core.List.{List, [], _∷_}
 use Prim.Native.Nat.{ℕ, zero, suc}
@@ -82,6 +81,15 @@ rootedBelow Γ p (suc v) = elim (rootedBelow Γ p v) [ true ↦ rooted Γ p (Γ 
 abbrev pub allRooted : Arrows → List ℕ → Bool
 allRooted Γ p = rootedBelow Γ p (Γ .registers)
 
+-- the lowest-numbered register that is not rooted; n where all below n are
+unfoldable pub strayBelow : Arrows → List ℕ → ℕ → ℕ
+strayBelow Γ p zero = zero
+strayBelow Γ p (suc v) =
+    elim (rootedBelow Γ p v) [ true ↦ elim (rooted Γ p (Γ .registers) v) [ true ↦ suc v | false ↦ v ] | false ↦ strayBelow Γ p v ]
+
+abbrev pub stray : Arrows → List ℕ → ℕ
+stray Γ p = strayBelow Γ p (Γ .registers)
+
 -- every register at what its preds give
 unfoldable pub settled : Arrows → List ℕ → List ℤ
 settled Γ p = table (worth Γ p (Γ .registers)) 0 (Γ .registers)
@@ -98,37 +106,38 @@ unfoldable pub trail : Arrows → List ℕ → ℕ → ℕ → List ℕ
 trail Γ p zero v = []
 trail Γ p (suc k) v = pred p (back Γ p k v) ∷ trail Γ p k v
 
--- From v, which lies k steps back from s, go on back while the registers met are above s, at most m steps: how many steps it took in all
--- until s came again, or 0 where it did not come.
+-- From v, which lies k steps back from s, go on back, at most m steps: how many steps it took in all until s came again, or 0 where it did
+-- not come.
 unfoldable pub around : Arrows → List ℕ → ℕ → ℕ → ℕ → ℕ → ℕ
 around Γ p s zero k v = 0
 around Γ p s (suc m) k v =
     elim (ltb (pred p v) (Γ .count)) [
       | false ↦ 0
-      | true ↦ elim (eqb (tail Γ (pred p v)) s) [
-        | true ↦ suc k
-        | false ↦ elim (ltb (tail Γ (pred p v)) s) [ true ↦ 0 | false ↦ around Γ p s m (suc k) (tail Γ (pred p v)) ]
-      ]
+      | true ↦ elim (eqb (tail Γ (pred p v)) s) [ true ↦ suc k | false ↦ around Γ p s m (suc k) (tail Γ (pred p v)) ]
     ]
+
+-- the lowest of v and the registers on the k steps back from it
+unfoldable pub lowest : Arrows → List ℕ → ℕ → ℕ → ℕ
+lowest Γ p zero v = v
+lowest Γ p (suc k) v = elim (ltb (back Γ p (suc k) v) (lowest Γ p k v)) [ true ↦ back Γ p (suc k) v | false ↦ lowest Γ p k v ]
 
 -- a circle by the register that it starts from, and the steps that it takes; no steps: there is none
 pub record Ring : Type 0 where
   pub start : ℕ
   pub steps : ℕ
 
--- the lowest register from s on, of the next m, that comes again by way of registers above it
-unfoldable pub circleFrom : Arrows → List ℕ → ℕ → ℕ → Ring
-circleFrom Γ p zero s = record { start = s; steps = 0 }
-circleFrom Γ p (suc m) s =
-    let k = around Γ p s (Γ .registers) 0 s in
-    elim (eqb k 0) [ true ↦ circleFrom Γ p m (suc s) | false ↦ record { start = s; steps = k } ]
+-- the lowest register of the circle on which the walk back from s ends: as many steps as there are registers lead onto it, and as many more
+-- meet all of it
+abbrev pub circleStart : Arrows → List ℕ → ℕ → ℕ
+circleStart Γ p s = lowest Γ p (Γ .registers) (back Γ p (Γ .registers) s)
 
-abbrev pub circle : Arrows → List ℕ → Ring
-circle Γ p = circleFrom Γ p (Γ .registers) 0
+-- and the circle, from that register
+abbrev pub circleFrom : Arrows → List ℕ → ℕ → Ring
+circleFrom Γ p s = record { start = circleStart Γ p s; steps = around Γ p (circleStart Γ p s) (Γ .registers) 0 (circleStart Γ p s) }
 
--- the arrows of the circle that the search finds, in their order, from its lowest register
-abbrev pub circleArrows : Arrows → List ℕ → List ℕ
-circleArrows Γ p = trail Γ p (circle Γ p .steps) (circle Γ p .start)
+-- its arrows, in their order
+abbrev pub circleArrows : Arrows → List ℕ → ℕ → List ℕ
+circleArrows Γ p s = trail Γ p (circleFrom Γ p s .steps) (circleFrom Γ p s .start)
 
 -- ---- rounds, one after another
 
@@ -164,6 +173,6 @@ relax Γ (suc fuel) a p =
       | false ↦ Rested (t .row)
       | true ↦ elim (allRooted Γ (t .preds)) [
         | true ↦ relax Γ fuel (settled Γ (t .preds)) (t .preds)
-        | false ↦ Circled (circleArrows Γ (t .preds))
+        | false ↦ Circled (circleArrows Γ (t .preds) (stray Γ (t .preds)))
       ]
     ]

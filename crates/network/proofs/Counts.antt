@@ -1,7 +1,5 @@
 -- Numbers that count, as the code casts them: a number from 0 up keeps its value in 64 bits, and one below 0 counts nothing.
 use mathlib.Core.Path.{_≡_, refl}
-use mathlib.Core.List.{List}
-use mathlib.Core.Bool.{true}
 use Prim.Native.Nat.{ℕ, _≤_, _<_}
 use native.Mathlib.Omega.{arith}
 use lib.IntN.{ℤ, pos, negsuc, natAbs, _-ℤ_}
@@ -11,8 +9,7 @@ use mir.Syntax.{w32, w64}
 use mir.Val.{SFits, Fits, toZ, ofZ}
 use mir.Facts.{toZ-pos, toZ-ofZ}
 use Rattle.whole.proofs.Lin.{lin, minus}
-use Rattle.paper.specs.File.{natural, counted, registers, paths}
-use Rattle.paper.proofs.Legal.{header-passed}
+use Rattle.paper.specs.File.{natural}
 
 pub record Natural (z : ℤ) : Type 0 where
   pub not-negative : T (nonNeg z)
@@ -36,17 +33,3 @@ last-fits n h = omega (lin, minus (pos n) (pos 1))
 
 pub last-read : (n : ℕ) → n ≤ 256 → toZ w32 (ofZ w32 (toZ w32 n -ℤ pos 1)) ≡ pos n -ℤ pos 1
 last-read n h = rw (small-read n h) (toZ-ofZ (last-fits n h))
-
--- a count's greatest value, from its field's
-natural-to : (b : ℕ) (z : ℤ) → z ≤ℤ pos b → natural z ≤ b
-natural-to b (pos n) h = omega lin
-natural-to b (negsuc n) h = omega arith
-
-pub record Small (n m : ℕ) : Type 0 where
-  pub registers-to : n ≤ 256
-  pub paths-to : m ≤ 2048
-
-pub counts-small : (f : List ℕ) → counted f ≡ true → Small (registers f) (paths f)
-counts-small f e =
-    let p = header-passed f e in
-    record { registers-to = natural-to 256 _ (p .0 .to); paths-to = natural-to 2048 _ (p .1 .to) }

@@ -1,5 +1,5 @@
 -- The tests of the header and of a record, joined from the tests of their fields, as the code joins them.
-use mathlib.Core.Path.{_≡_}
+use mathlib.Core.Path.{_≡_, ap, _∙_}
 use mathlib.Core.List.{List}
 use mathlib.Core.Bool.{Bool, _&&_}
 use Prim.Native.Nat.{ℕ, _+_, _*_}
@@ -8,7 +8,9 @@ use lib.Signed.{leZ}
 use lib.ListN.{length}
 use lib.Dec.{eqb}
 use Rattle.whole.specs.Four.{numberAt}
-use Rattle.paper.specs.File.{marked, within, windowed, counted, sized, ranged, registers, paths, registerPlace, registerOk, pathOk}
+use Rattle.paper.specs.File.{marked, within, windowed, counted, sized, ranged, registers, paths, registerPlace, pathPlace, registerOk, pathOk}
+use Rattle.network.specs.declared.Record.{Record}
+use Rattle.network.specs.Records.{IsRecord}
 
 pub counted-joined : (f : List ℕ) {n m r : Bool}
     → n ≡ within (pos 1) (pos 256) (numberAt f 2)
@@ -31,27 +33,50 @@ pub ranged-joined : (f : List ℕ) {floor ceiling u r : Bool}
 unfolding ranged
 ranged-joined f floor ceiling u r = rw (floor, ceiling, u) at r
 
-pub register-joined : (f : List ℕ) (i : ℕ) {mark setup hold window three r : Bool}
-    → mark ≡ marked f (registerPlace f i) 82 71
-    → setup ≡ within (negsuc 99999) (pos 100000) (numberAt f (registerPlace f i + 2))
-    → hold ≡ within (negsuc 99999) (pos 100000) (numberAt f (registerPlace f i + 6))
-    → window ≡ windowed i (numberAt f (registerPlace f i + 10)) (numberAt f (registerPlace f i + 14))
-    → three ≡ mark && setup && hold
-    → r ≡ three && window
-    → r ≡ registerOk f i
-unfolding registerOk
-register-joined f i mark setup hold window three r = cc
+-- what was handed out at a place, by another name of the place
+pub record-there : (f : List ℕ) {at place : ℕ} (r : Record) → at ≡ place → IsRecord f at r → IsRecord f place r
+record-there f r e s = rw e at s
 
--- the code has the count of registers at hand, and finds a path's place by it
-pub path-joined : (f : List ℕ) (n p : ℕ) {mark from to dmin dmax three r : Bool}
+pub path-there : (f : List ℕ) (n p : ℕ) {at : ℕ} (r : Record) → n ≡ registers f → at ≡ 22 + 18 * (n + p) → IsRecord f at r → IsRecord f (pathPlace f p) r
+path-there f n p r k e s = record-there f r (e ∙ ap (λ x. 22 + 18 * (x + p)) k) s
+
+pub register-joined : (f : List ℕ) (i : ℕ) (r : Record) {mark setup hold window three ok : Bool}
+    → IsRecord f (registerPlace f i) r
+    → mark ≡ eqb (r .initial) 82 && eqb (r .last) 71
+    → setup ≡ within (negsuc 99999) (pos 100000) (r .first)
+    → hold ≡ within (negsuc 99999) (pos 100000) (r .second)
+    → window ≡ windowed i (r .third) (r .fourth)
+    → three ≡ mark && setup && hold
+    → ok ≡ three && window
+    → ok ≡ registerOk f i
+unfolding registerOk marked
+register-joined f i r s mark setup hold window three ok =
+    let a = s .initial in
+    let b = s .last in
+    let c = s .first in
+    let d = s .second in
+    let g = s .third in
+    let h = s .fourth in
+    cc
+
+-- the code has the count of registers at hand
+pub path-joined : (f : List ℕ) (n p : ℕ) (r : Record) {mark from to dmin dmax three ok : Bool}
     → n ≡ registers f
-    → mark ≡ marked f (22 + 18 * (n + p)) 80 84
-    → from ≡ within (pos 0) (pos n -ℤ pos 1) (numberAt f (22 + 18 * (n + p) + 2))
-    → to ≡ within (pos 0) (pos n -ℤ pos 1) (numberAt f (22 + 18 * (n + p) + 6))
-    → dmin ≡ leZ (pos 0) (numberAt f (22 + 18 * (n + p) + 10))
-    → dmax ≡ within (numberAt f (22 + 18 * (n + p) + 10)) (pos 1000000) (numberAt f (22 + 18 * (n + p) + 14))
+    → IsRecord f (pathPlace f p) r
+    → mark ≡ eqb (r .initial) 80 && eqb (r .last) 84
+    → from ≡ within (pos 0) (pos n -ℤ pos 1) (r .first)
+    → to ≡ within (pos 0) (pos n -ℤ pos 1) (r .second)
+    → dmin ≡ leZ (pos 0) (r .third)
+    → dmax ≡ within (r .third) (pos 1000000) (r .fourth)
     → three ≡ mark && from && to
-    → r ≡ three && dmin && dmax
-    → r ≡ pathOk f p
-unfolding pathOk
-path-joined f n p e mark from to dmin dmax three r = rw (← e) (cc)
+    → ok ≡ three && dmin && dmax
+    → ok ≡ pathOk f p
+unfolding pathOk marked
+path-joined f n p r e s mark from to dmin dmax three ok =
+    let a = s .initial in
+    let b = s .last in
+    let c = s .first in
+    let d = s .second in
+    let g = s .third in
+    let h = s .fourth in
+    cc

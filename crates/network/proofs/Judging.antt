@@ -2,32 +2,20 @@
 use mathlib.Core.Path.{_≡_, refl}
 use mathlib.Core.Logic.{inl, inr}
 use mathlib.Core.List.{List}
-use mathlib.Core.Bool.{Bool, true, false}
-use Prim.Native.Nat.{ℕ, _+_, _*_, _≤_, _<_}
-use native.Mathlib.Omega.{arith}
+use mathlib.Core.Bool.{true, false}
+use Prim.Native.Nat.{ℕ, _+_, _*_, _≤_}
 use lib.ListN.{length}
 use borrow.Author.Tests.{leb-true, eqb-true}
 use Rattle.paper.specs.declared.Fault.the-variants.{Header, Counts, Length, Ranges, Register, Path}
 use Rattle.paper.specs.declared.Verdict.{Verdict}
 use Rattle.paper.specs.declared.Verdict.the-variants.{Accepted, Faulty}
 use Rattle.paper.specs.File.{headed, counted, sized, ranged, registers, paths, registerOk, pathOk}
-use Rattle.paper.specs.Table.{Fails, Lowest}
 use Rattle.paper.specs.Outcome.{Judged}
 use Rattle.paper.proofs.Legal.{both}
+use Rattle.paper.proofs.TableLaws.{passed, all-passed}
 use Rattle.network.specs.declared.fault.Found.{Found}
 use Rattle.network.specs.declared.fault.Found.the-variants.{At, Nothing}
 use Rattle.network.specs.Search.{Sought, RecordsJudged}
-
--- ---- a row that applies at no place
-
-clash : {t : Bool} → t ≡ true → t ≡ false → ⊥
-clash p q = let z : _≡_ {A = ℕ} 0 1 = cc in omega arith
-
-passed : {ok : Bool} → ok ≡ true → (p : ℕ) → Fails ok p → ⊥
-passed e p x = clash e (x .0)
-
-all-passed : {ok : ℕ → Bool} {n : ℕ} → ((p : ℕ) → p < n → ok p ≡ true) → (p : ℕ) → Lowest ok n p → ⊥
-all-passed all p x = clash (all p (x .0)) (x .1)
 
 -- ---- the length of a file whose tests passed
 

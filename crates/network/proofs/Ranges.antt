@@ -1,40 +1,20 @@
 -- What is read from an accepted file lies in its ranges. All of them fit a machine number by far, which a caller's sums rest on.
 use mathlib.Core.Path.{_≡_, refl}
 use mathlib.Core.List.{List}
-use Prim.Native.Nat.{ℕ, _≤_, _<_}
-use native.Mathlib.Omega.{arith}
-use lib.IntN.{ℤ, pos, negsuc}
-use mir.Syntax.{w32}
-use mir.Val.{SFits}
-use Rattle.whole.proofs.Lin.{lin}
+use Prim.Native.Nat.{ℕ, _<_}
+use lib.IntN.{pos, negsuc}
 use Rattle.paper.specs.Network.{Network}
-use Rattle.paper.specs.File.{registers, paths, networkOf}
+use Rattle.paper.specs.File.{registers, networkOf}
 use Rattle.paper.specs.Refusals.{Accepted}
 use Rattle.paper.proofs.Legal.{Between, Legal, accepted-legal}
-use Rattle.network.specs.declared.Header.{Header}
 use Rattle.network.specs.declared.Register.{Register}
 use Rattle.network.specs.declared.Path.{Path}
-use Rattle.network.specs.Records.{IsHeader, IsRegister, IsPath}
+use Rattle.network.specs.Records.{IsRegister, IsPath}
 
--- the network's counts are the file's
+-- the network's count of registers is the file's
 pub registers-is : (f : List ℕ) → networkOf f .registers ≡ registers f
 unfolding networkOf
 registers-is f = refl
-
-pub paths-is : (f : List ℕ) → networkOf f .paths ≡ paths f
-unfolding networkOf
-paths-is f = refl
-
--- the widest range of all is that of the floor and the ceiling
-pub between-fits : {z : ℤ} → Between (negsuc 9999999) (pos 10000000) z → SFits w32 z
-between-fits b = omega lin
-
-pub record HeaderRanges (r : Header) : Type 0 where
-  pub registers-from : 1 ≤ r .registers
-  pub registers-to : r .registers ≤ 256
-  pub paths-to : r .paths ≤ 2048
-  pub floor : Between (pos 1) (r .ceiling) (r .floor)
-  pub ceiling : Between (r .floor) (pos 10000000) (r .ceiling)
 
 pub record RegisterRanges (r : Register) : Type 0 where
   pub setup : Between (negsuc 99999) (pos 100000) (r .setup .0)
@@ -52,22 +32,6 @@ pub record PathRanges (n : ℕ) (r : Path) : Type 0 where
 -- ---- of any network whose fields lie in their ranges
 
 module _ {N : Network} (legal : Legal N) where
-  legal-header : (r : Header) → IsHeader N r → HeaderRanges r
-  legal-header r e =
-      let a = legal .registers-from in
-      let b = legal .registers-to in
-      let c = legal .paths-to in
-      let d = legal .floor-from in
-      let g = legal .ceiling-from in
-      let h = legal .ceiling-to in
-      record {
-        registers-from = omega (arith, e .registers);
-        registers-to = omega (arith, e .registers);
-        paths-to = omega (arith, e .paths);
-        floor = rw (e .floor, e .ceiling) (record { from = omega lin; to = omega lin });
-        ceiling = rw (e .floor, e .ceiling) (record { from = omega lin; to = omega lin });
-      }
-
   legal-register : (i : ℕ) (r : Register) → i < N .registers → IsRegister N i r → RegisterRanges r
   legal-register i r l e =
       let low = legal .low i l in
@@ -90,9 +54,6 @@ module _ {N : Network} (legal : Legal N) where
       }
 
 -- ---- of an accepted file
-
-pub header-ranges : (f : List ℕ) (r : Header) → Accepted f → IsHeader (networkOf f) r → HeaderRanges r
-header-ranges f r a e = legal-header (accepted-legal f a) r e
 
 pub register-ranges : (f : List ℕ) (i : ℕ) (r : Register) → Accepted f → i < networkOf f .registers → IsRegister (networkOf f) i r → RegisterRanges r
 register-ranges f i r a l e = legal-register (accepted-legal f a) i r l e

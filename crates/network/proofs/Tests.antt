@@ -25,9 +25,6 @@ read-is f e = toZ-ofZ f ∙ e
 pub within-same : {a b z a′ b′ z′ : ℤ} → a ≡ a′ → b ≡ b′ → z ≡ z′ → within a b z ≡ within a′ b′ z′
 within-same a b z = cc
 
-pub windowed-same : (i : ℕ) {a b a′ b′ : ℤ} → a ≡ a′ → b ≡ b′ → windowed i a b ≡ windowed i a′ b′
-windowed-same i a b = cc
-
 -- ---- a register's window: the host's, and another's
 
 pub windowed-host : (i : ℕ) (low high : ℤ) {a b r : Bool}

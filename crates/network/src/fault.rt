@@ -2,11 +2,15 @@
 // answers joined last.
 ghost use mathlib.Core.Path.{_≡_};
 ghost use mathlib.Core.Bool.{true};
-ghost use Prim.Native.Nat.{_+_, _*_, _≤_, _<_};
+ghost use mathlib.Core.List.{List};
+ghost use Prim.Native.Nat.{ℕ, _+_, _*_, _≤_, _<_};
 ghost use lib.ListN.{length};
 ghost use Rattle.paper.specs.File.{headed, counted, sized, ranged, registers, registerPlace, pathPlace, registerOk, pathOk};
+ghost use Rattle.network.specs.Records.{IsRecord};
 ghost use Rattle.network.specs.Search.{Sought};
+use crate::Record;
 use crate::field;
+use crate::read;
 
 // What a search for a faulty record finds.
 pub enum Found {
@@ -58,43 +62,43 @@ pub fn ranged(file: &[u8]) -> bool
     )
 }
 
-// Number 5, of one register: its mark, its setup and hold time, its window.
-pub fn register_ok(file: &[u8], i: usize) -> bool
-    requires { ⌜ registerPlace (now file) i + 18 ≤ length (now file) ⌝ }
-    ensures { λ r. ⌜ r ≡ registerOk (now (file .entry)) i ⌝ }
+// Number 5, of one register, by its record: its mark, its setup and hold time, its window.
+pub fn register_ok(i: usize, r: Record) -> bool
+    ensures { λ ok. ⌜ ((f : List ℕ) → IsRecord f (registerPlace f i) r → ok ≡ registerOk f i) ⌝ }
 {
-    let at = 22 + 18 * i;
-    let mark = field::marked(file, at, b'R', b'G');
-    let setup = field::within_at(file, at + 2, -100_000, 100_000);
-    let hold = field::within_at(file, at + 6, -100_000, 100_000);
-    let window = field::windowed_at(file, i, at + 10, at + 14);
+    let mark = field::both(r.initial == b'R', r.last == b'G');
+    let setup = field::within(-100_000, 100_000, r.first);
+    let hold = field::within(-100_000, 100_000, r.second);
+    let window = field::windowed(i, r.third, r.fourth);
     field::both(field::all3(mark, setup, hold), window)
 }
 
-// Number 6, of one path: its mark, its ends, its delays.
-pub fn path_ok(file: &[u8], n: usize, p: usize) -> bool
-    requires { ⌜ (n ≡ registers (now file)) × (n ≤ 256) × (pathPlace (now file) p + 18 ≤ length (now file)) ⌝ }
-    ensures { λ r. ⌜ r ≡ pathOk (now (file .entry)) p ⌝ }
+// Number 6, of one path, by its record: its mark, its ends among n registers, its delays.
+pub fn path_ok(n: usize, r: Record) -> bool
+    requires { ⌜ n ≤ 256 ⌝ }
+    ensures { λ ok. ⌜ ((f : List ℕ) (p : ℕ) → n ≡ registers f → IsRecord f (pathPlace f p) r → ok ≡ pathOk f p) ⌝ }
 {
-    let at = 22 + 18 * (n + p);
-    let mark = field::marked(file, at, b'P', b'T');
-    let from = field::named(file, at + 2, n);
-    let to = field::named(file, at + 6, n);
-    let dmin = field::from_zero(file, at + 10);
-    let dmax = field::rising(file, at + 10, at + 14, 1_000_000);
+    let mark = field::both(r.initial == b'P', r.last == b'T');
+    let from = field::named(r.first, n);
+    let to = field::named(r.second, n);
+    let dmin = field::from_zero(r.third);
+    let dmax = field::within(r.third, 1_000_000, r.fourth);
     field::all3(field::all3(mark, from, to), dmin, dmax)
 }
 
-// The lowest of n registers that is faulty.
+// The lowest of n registers that is faulty. The records are read one after another, each where the last one says that the next begins.
 pub fn lowest_register(file: &[u8], n: usize) -> Found
     requires { ⌜ 22 + 18 * n ≤ length (now file) ⌝ }
     ensures { λ r. ⌜ Sought (registerOk (now (file .entry))) n r ⌝ }
 {
     let mut i = 0;
+    let mut at = 22;
     while i < n {
-        if !register_ok(file, i) {
+        let r = read::record(file, at);
+        if !register_ok(i, r) {
             return Found::At(i);
         }
+        at = r.next;
         i += 1;
     }
     Found::Nothing
@@ -106,10 +110,13 @@ pub fn lowest_path(file: &[u8], n: usize, m: usize) -> Found
     ensures { λ r. ⌜ Sought (pathOk (now (file .entry))) m r ⌝ }
 {
     let mut p = 0;
+    let mut at = 22 + 18 * n;
     while p < m {
-        if !path_ok(file, n, p) {
+        let r = read::record(file, at);
+        if !path_ok(n, r) {
             return Found::At(p);
         }
+        at = r.next;
         p += 1;
     }
     Found::Nothing

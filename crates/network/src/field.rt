@@ -1,4 +1,5 @@
-// One field of the file, read and tested. Signed numbers stay within these functions, which answer a bool or a count.
+// One field of the header, or one number of a record, tested. Signed numbers are compared within these functions alone, which answer a
+// bool or a count.
 ghost use mathlib.Core.Path.{_≡_};
 ghost use mathlib.Core.Bool.{_&&_};
 ghost use Prim.Native.Nat.{_+_, _≤_};
@@ -67,12 +68,12 @@ pub fn rising(file: &[u8], from: usize, at: usize, high: i32) -> bool
     within(whole::number(file, from), high, whole::number(file, at))
 }
 
-// The number at a place names one of n registers.
-pub fn named(file: &[u8], at: usize, n: usize) -> bool
-    requires { ⌜ (at + 4 ≤ length (now file)) × (n ≤ 256) ⌝ }
-    ensures { λ r. ⌜ r ≡ within (pos 0) (pos n -ℤ pos 1) (numberAt (now (file .entry)) at) ⌝ }
+// The number names one of n registers.
+pub fn named(z: i32, n: usize) -> bool
+    requires { ⌜ n ≤ 256 ⌝ }
+    ensures { λ r. ⌜ r ≡ within (pos 0) (pos n -ℤ pos 1) z ⌝ }
 {
-    within(0, n as i32 - 1, whole::number(file, at))
+    within(0, n as i32 - 1, z)
 }
 
 // A register's window: both ends 0 for register 0.
@@ -89,18 +90,9 @@ pub fn windowed(i: usize, low: i32, high: i32) -> bool
     }
 }
 
-// The same, of the ends that stand at two places.
-pub fn windowed_at(file: &[u8], i: usize, low: usize, high: usize) -> bool
-    requires { ⌜ (low + 4 ≤ length (now file)) × (high + 4 ≤ length (now file)) ⌝ }
-    ensures { λ r. ⌜ r ≡ windowed i (numberAt (now (file .entry)) low) (numberAt (now (file .entry)) high) ⌝ }
+// The number is from 0 up.
+pub fn from_zero(z: i32) -> bool
+    ensures { λ r. ⌜ r ≡ leZ (pos 0) z ⌝ }
 {
-    windowed(i, whole::number(file, low), whole::number(file, high))
-}
-
-// The number at a place is from 0 up.
-pub fn from_zero(file: &[u8], at: usize) -> bool
-    requires { ⌜ at + 4 ≤ length (now file) ⌝ }
-    ensures { λ r. ⌜ r ≡ leZ (pos 0) (numberAt (now (file .entry)) at) ⌝ }
-{
-    0 <= whole::number(file, at)
+    0 <= z
 }

@@ -1,13 +1,16 @@
-// The records of an accepted file, by value. What is read lies in its range: proofs/Ranges.antt says so of each field.
+// The records of a file, by value. What is read of an accepted one lies in its range: proofs/Ranges.antt says so of each field.
 ghost use mathlib.Core.Path.{_≡_};
-ghost use Prim.Native.Nat.{_<_};
+ghost use Prim.Native.Nat.{_+_, _≤_, _<_};
+ghost use lib.ListN.{length};
 ghost use Rattle.paper.specs.File.{networkOf};
 ghost use Rattle.paper.specs.Refusals.{Accepted};
-ghost use Rattle.network.specs.Records.{IsHeader, IsRegister, IsPath};
+ghost use Rattle.network.specs.Records.{IsHeader, IsRecord, IsRegister, IsPath};
 use crate::Header;
 use crate::Path;
+use crate::Record;
 use crate::Register;
 use crate::field;
+use crate::reader;
 use paper::Delay;
 use paper::Latency;
 
@@ -23,16 +26,24 @@ pub fn header(file: &[u8]) -> Header
     }
 }
 
+// The record at a place, through a reader. Every record is read by this function; its contract speaks of no reader.
+pub fn record(file: &[u8], at: usize) -> Record
+    requires { ⌜ at + 18 ≤ length (now file) ⌝ }
+    ensures { λ r. ⌜ IsRecord (now (file .entry)) at r ⌝ }
+{
+    reader::record(reader::open(file, at))
+}
+
 pub fn register(file: &[u8], i: usize) -> Register
     requires { ⌜ Accepted (now file) × (i < networkOf (now file) .registers) ⌝ }
     ensures { λ r. ⌜ IsRegister (networkOf (now (file .entry))) i r ⌝ }
 {
-    let at = 22 + 18 * i;
+    let r = record(file, 22 + 18 * i);
     Register {
-        setup: Delay(whole::number(file, at + 2)),
-        hold: Delay(whole::number(file, at + 6)),
-        low: Latency(whole::number(file, at + 10)),
-        high: Latency(whole::number(file, at + 14)),
+        setup: Delay(r.first),
+        hold: Delay(r.second),
+        low: Latency(r.third),
+        high: Latency(r.fourth),
     }
 }
 
@@ -41,12 +52,12 @@ pub fn path(file: &[u8], n: usize, p: usize) -> Path
     requires { ⌜ Accepted (now file) × (n ≡ networkOf (now file) .registers) × (p < networkOf (now file) .paths) ⌝ }
     ensures { λ r. ⌜ IsPath (networkOf (now (file .entry))) p r ⌝ }
 {
-    let at = 22 + 18 * (n + p);
+    let r = record(file, 22 + 18 * (n + p));
     Path {
-        from: field::count(file, at + 2),
-        to: field::count(file, at + 6),
-        dmin: Delay(whole::number(file, at + 10)),
-        dmax: Delay(whole::number(file, at + 14)),
+        from: field::natural(r.first),
+        to: field::natural(r.second),
+        dmin: Delay(r.third),
+        dmax: Delay(r.fourth),
         uncertainty: Delay(whole::number(file, 18)),
     }
 }

@@ -1,5 +1,5 @@
 -- What an accepted file says of its network: every field lies in its range. All that later proofs need of 'accepted' is here, once.
-use mathlib.Core.Path.{_≡_, refl, sym, ap, _∙_}
+use mathlib.Core.Path.{_≡_, refl}
 use mathlib.Core.List.{List}
 use mathlib.Core.Bool.{Bool, true, false, _&&_}
 use Prim.Native.Nat.{ℕ, zero, suc, _+_, _*_, _≤_, _<_}
@@ -8,12 +8,12 @@ use native.Mathlib.Decide.{decLt}
 use lib.IntN.{ℤ, pos, negsuc, _-ℤ_}
 use lib.Signed.{leZ, _≤ℤ_}
 use lib.ListN.{length}
-use lib.Dec.{leb, eqb}
-use borrow.Author.Tests.{eqb-true, leb-true}
-use Rattle.whole.proofs.Lin.{lin, minus, le-goal, le-true}
+use lib.Dec.{eqb}
+use borrow.Author.Tests.{eqb-true}
+use Rattle.whole.proofs.Lin.{lin, minus, le-goal, le-true, true-not-false}
 use Rattle.whole.specs.Four.{numberAt}
 use Rattle.paper.specs.Network.{Network}
-use Rattle.paper.specs.File.{natural, marked, within, windowed, headed, counted, sized, ranged, registers, paths, registerPlace, pathPlace, registerOk, pathOk, networkOf}
+use Rattle.paper.specs.File.{natural, marked, within, windowed, counted, sized, ranged, registers, paths, registerPlace, pathPlace, registerOk, pathOk, networkOf}
 use Rattle.paper.specs.Table.{Fails, Lowest}
 use Rattle.paper.specs.Refusals.{Accepted}
 
@@ -21,10 +21,7 @@ use Rattle.paper.specs.Refusals.{Accepted}
 
 pub both : (a b : Bool) → a && b ≡ true → (a ≡ true) × (b ≡ true)
 both true b e = (refl, e)
-both false b e = (absurd (false-not e), absurd (false-not e))
-  where
-    false-not : false ≡ true → ⊥
-    false-not e = let z : _≡_ {A = ℕ} 0 1 = cc in omega arith
+both false b e = absurd (true-not-false e refl)
 
 pub record Between (low high z : ℤ) : Type 0 where
   pub from : low ≤ℤ z
@@ -162,6 +159,9 @@ pub header-passed : (f : List ℕ) → counted f ≡ true → Between (pos 1) (p
 unfolding counted
 header-passed f e = let p = both _ _ e in (within-is _ _ _ (p .0), within-is _ _ _ (p .1))
 
+pub counts-to : (f : List ℕ) → counted f ≡ true → (registers f ≤ 256) × (paths f ≤ 2048)
+counts-to f e = let p = header-passed f e in (natural-bounds 1 256 _ (p .0) .1, natural-bounds 0 2048 _ (p .1) .1)
+
 pub record RangesPassed (f : List ℕ) : Type 0 where
   pub in-floor : Between (pos 1) (pos 10000000) (numberAt f 10)
   pub in-ceiling : Between (numberAt f 10) (pos 10000000) (numberAt f 14)
@@ -213,3 +213,13 @@ accepted-legal f a =
       dmax = λ p l. path p l .in-dmax;
       uncertainty = λ p l. ranges .in-uncertainty;
     }
+
+-- "The greatest file is 41,494 bytes."
+pub accepted-most : (f : List ℕ) → Accepted f → length f ≤ 41494
+unfolding networkOf
+accepted-most f a =
+    let l = accepted-legal f a in
+    let r : registers f ≤ 256 = l .registers-to in
+    let p : paths f ≤ 2048 = l .paths-to in
+    let e = accepted-length f a in
+    omega arith

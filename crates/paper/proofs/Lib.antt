@@ -2,5 +2,6 @@ pub mod Legal
 pub mod RuleLaws
 pub mod LoopLaws
 pub mod TableLaws
+pub mod OutputLaws
 pub mod Tests
 pub mod WorkedCases

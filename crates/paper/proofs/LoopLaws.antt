@@ -25,6 +25,32 @@ all-at P [] a d j h = absurd (omega arith)
 all-at P (e ∷ l) a d zero h = a .0
 all-at P (e ∷ l) a d (suc j) h = all-at P l (a .1) d j (omega arith)
 
+-- what holds of all that P holds of, holds of all members
+pub all-map : {E : Type 0} {P Q : E → Type 0} → ((e : E) → P e → Q e) → (l : List E) → All P l → All Q l
+all-map f [] h = tt
+all-map f (e ∷ l) h = (f e (h .0), all-map f l (h .1))
+
+-- "the latency at the arrow's head is at least the latency at its tail plus the amount": of any kind of arrow, added up
+module _ {E : Type 0} (tail head : E → ℕ) (amount : E → ℤ) (x : ℕ → ℤ) where
+  -- x meets arrow e
+  abbrev pub Meets : E → Type 0
+  Meets e = (x (tail e) +ℤ amount e) ≤ℤ x (head e)
+
+  -- The first arrow lifts x u by its amount at most to its head, and the rest of the chain goes on from there.
+  chain-binds : (u : ℕ) (l : List E) (v : ℕ) → All Meets l → Chain tail head u l v → (x u +ℤ total amount l) ≤ℤ x v
+  chain-binds u [] v h c = rw c (omega lin)
+  chain-binds u (e ∷ l) v h c =
+      let first : (x u +ℤ amount e) ≤ℤ x (head e) = rw (c .0) at (h .0) in
+      let rest = chain-binds (head e) l v (h .1) (c .1) in
+      omega (lin, plus (amount e) (total amount l))
+
+  -- Around a loop the chain comes back to where it started, so nothing is left for the amounts above 0.
+  pub loop-binds : (l : List E) → All Meets l → Loop tail head l → total amount l ≤ℤ pos 0
+  loop-binds [] h c = absurd c
+  loop-binds (e ∷ l) h c =
+      let once = chain-binds (tail e) (e ∷ l) (tail e) h (c .0) in
+      omega (lin, plus (amount e) (total amount l))
+
 -- "passes each register at most once": at two places of a loop stand arrows that leave different registers
 module _ {E : Type 0} (tail head : E → ℕ) where
   once-apart : (l : List E) → Once tail head l → (d : E) (i j : ℕ) → i < j → j < length l → tail (getD l j d) ≢ tail (getD l i d)
@@ -102,22 +128,18 @@ module _ (N : Network) where
   pub need-from : (P : ℕ) (l : List Rule) → 0 < setups l → need N l ≡ pos P +ℤ roundUp (total (amount N P) l) (setups l)
   need-from P l h = need-shifts _ _ (setups l) P h (total-at P l)
 
-  -- "the latency at the arrow's head is at least the latency at its tail plus the amount": so along a chain, arrow after arrow
+  -- a schedule meets the arrow of every rule
+  schedule-meets : (P : ℕ) (x : ℕ → ℤ) → Schedule N P x → (l : List Rule) → All (Exists N) l → All (Meets (tail N) (head N) (amount N P) x) l
+  schedule-meets P x s = all-map (λ r e. arrow-is-rule N P x r (s .host) .0 (s .meets r e))
+
+  -- so along a chain, arrow after arrow
   pub chain-binds-schedule : (P : ℕ) (x : ℕ → ℤ) → Schedule N P x → (l : List Rule) (u v : ℕ)
       → All (Exists N) l → Chain (tail N) (head N) u l v → (x u +ℤ total (amount N P) l) ≤ℤ x v
-  chain-binds-schedule P x s [] u v e c = rw c (omega lin)
-  chain-binds-schedule P x s (r ∷ l) u v e c =
-      let step = arrow-is-rule N P x r (s .host) .0 (s .meets r (e .0)) in
-      let rest = chain-binds-schedule P x s l (head N r) v (e .1) (c .1) in
-      let start = ap x (c .0) in
-      omega (lin, plus (amount N P r) (total (amount N P) l))
+  chain-binds-schedule P x s l u v e = chain-binds (tail N) (head N) (amount N P) x u l v (schedule-meets P x s l e)
 
   -- "It contradicts itself at P when its amounts add up to more than 0.": where there is a schedule, no loop's amounts do
   pub loop-binds-schedule : (P : ℕ) (x : ℕ → ℤ) → Schedule N P x → (l : List Rule) → IsLoop N l → total (amount N P) l ≤ℤ pos 0
-  loop-binds-schedule P x s [] i = absurd (i .loop)
-  loop-binds-schedule P x s (r ∷ l) i =
-      let around = chain-binds-schedule P x s (r ∷ l) (tail N r) (tail N r) (i .exist) (i .loop .0) in
-      omega (lin, plus (amount N P r) (total (amount N P) l))
+  loop-binds-schedule P x s l i = loop-binds (tail N) (head N) (amount N P) x l (schedule-meets P x s l (i .exist)) (i .loop)
 
   -- a loop that contradicts itself at P leaves no schedule at P, nor at any shorter period
   pub no-schedule : (P Q : ℕ) (l : List Rule) → Refutes N P l → Q ≤ P → (x : ℕ → ℤ) → Schedule N Q x → ⊥

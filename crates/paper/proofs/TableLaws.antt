@@ -1,18 +1,16 @@
--- What a table of numbers gives, it gives once: where each row has one place, one number and one place. So a look at a file has one
--- finding, the scheduler one outcome, and the rule question one reply.
+-- What a table of numbers gives, it gives once: where each row has one place, one number and one place. So the scheduler has one outcome,
+-- and the rule question one reply.
 use mathlib.Core.Path.{_≡_, refl, sym, ap₂, _∙_}
-use mathlib.Core.Logic.{_↔_, _⊎_, inl, inr}
+use mathlib.Core.Logic.{_⊎_, inl, inr}
 use mathlib.Core.List.{List, [], _∷_, _++_}
-use mathlib.Core.Bool.{Bool, true, false}
+use mathlib.Core.Bool.{Bool, true}
 use Prim.Native.Nat.{ℕ, _+_, _*_, _≤_, _<_}
 use native.Mathlib.Omega.{arith}
 use lib.ListN.{length, getD}
 use lib.Dec.{leb}
-use Rattle.whole.proofs.Lin.{lin}
+use Rattle.whole.proofs.Lin.{lin, true-not-false}
 use Rattle.paper.specs.declared.Fault.{Fault}
 use Rattle.paper.specs.declared.Fault.the-variants.{Header, Counts, Length, Ranges, Register, Path}
-use Rattle.paper.specs.declared.Verdict.{Verdict}
-use Rattle.paper.specs.declared.Verdict.the-variants as verdict
 use Rattle.paper.specs.declared.Outcome.{Outcome}
 use Rattle.paper.specs.declared.Outcome.the-variants as outcome
 use Rattle.paper.specs.declared.Reply.{Reply}
@@ -21,9 +19,9 @@ use Rattle.paper.specs.Network.{Network}
 use Rattle.paper.specs.Rules.{Rule, Setup, Hold, Low, High, kind, number}
 use Rattle.paper.specs.File.{registers, networkOf}
 use Rattle.paper.specs.Table.{Row, Fails, Lowest, When, Silent, Given, Clear}
-use Rattle.paper.specs.Refusals.{faults, refusals, Accepted, NoPeriod, NoneToCeiling}
+use Rattle.paper.specs.Refusals.{faults, refusals, NoPeriod, NoneToCeiling}
 use Rattle.paper.specs.Question.{Question, Asked, InRange, questionRefusals, replyNumber, replyPlace, Says, Answers}
-use Rattle.paper.specs.Outcome.{faultNumber, faultPlace, verdictNumber, verdictPlace, outcomeNumber, outcomePlace, Judged, Result}
+use Rattle.paper.specs.Outcome.{faultNumber, faultPlace, outcomeNumber, outcomePlace, Result}
 
 -- ---- any table
 
@@ -76,12 +74,7 @@ given-lowest k (s ∷ t) r n p (inl b) =
     ((λ q a. omega arith), above-all (s .number) n t (omega arith) (r .1))
 given-lowest k (s ∷ t) r n p (inr b) = ((λ q a. absurd (b .0 q a)), given-lowest (s .number) t (r .1) n p (b .1))
 
--- where no row applies, 0 and 0 are given
-pub clear-given : (t : List Row) → Clear t → Given t 0 0
-clear-given [] c = (refl, refl)
-clear-given (r ∷ t) c = inr (c .0, clear-given t (c .1))
-
--- and where 0 is given, no row applies
+-- where 0 is given, no row applies
 pub given-clear : (t : List Row) → Numbered t → (p : ℕ) → Given t 0 p → Clear t
 given-clear [] k p g = tt
 given-clear (r ∷ t) k p (inl g) = let e = g .0 in absurd (omega (arith, k .0))
@@ -103,7 +96,13 @@ by-row-given [] n p b = absurd b
 by-row-given (r ∷ t) n p (inl b) = inl b
 by-row-given (r ∷ t) n p (inr b) = inr (b .0, by-row-given t n p (b .1))
 
--- and back: it is given by a row of the first part, or by the second part where no row of the first applies
+-- a number other than 0 is given by a row
+pub given-row : (t : List Row) (n p : ℕ) → 0 < n → Given t n p → ByRow t n p
+given-row [] n p h g = let e = g .0 in absurd (omega arith)
+given-row (r ∷ t) n p h (inl g) = inl g
+given-row (r ∷ t) n p h (inr g) = inr (g .0, given-row t n p h (g .1))
+
+-- what a table continued gives is given by a row of the first part, or by the second part where no row of the first applies
 pub given-append : (t s : List Row) (n p : ℕ) → Given (t ++ s) n p → ByRow t n p ⊎ (Clear t × Given s n p)
 given-append [] s n p g = inr (tt, g)
 given-append (r ∷ t) s n p (inl g) = inl (inl g)
@@ -123,10 +122,17 @@ when-one A p q a b = a .1 ∙ sym (b .1)
 
 -- of two lowest records neither is below the other
 not-below : (ok : ℕ → Bool) (n p q : ℕ) → Lowest ok n p → Lowest ok n q → p < q → ⊥
-not-below ok n p q a b h = let t = b .2 p h in let f = a .1 in let z : true ≡ false = cc in let y : _≡_ {A = ℕ} 0 1 = cc in omega arith
+not-below ok n p q a b h = true-not-false (b .2 p h) (a .1)
 
 lowest-one : (ok : ℕ → Bool) (n p q : ℕ) → Lowest ok n p → Lowest ok n q → p ≡ q
 lowest-one ok n p q a b = let l = not-below ok n p q a b in let g = not-below ok n q p b a in omega arith
+
+-- a row applies at no place where its test passes, or passes of every record
+pub passed : {ok : Bool} → ok ≡ true → (p : ℕ) → Fails ok p → ⊥
+passed e p x = true-not-false e (x .0)
+
+pub all-passed : {ok : ℕ → Bool} {n : ℕ} → ((p : ℕ) → p < n → ok p ≡ true) → (p : ℕ) → Lowest ok n p → ⊥
+all-passed all p x = true-not-false (all p (x .0)) (x .1)
 
 -- the rows that come after the faults: of the scheduler, and of the rule question
 abbrev pub later-rows : List ℕ → ℕ → List Row
@@ -140,12 +146,9 @@ abbrev pub question-rows : List ℕ → Question → List Row
 question-rows f q = record { number = 10; applies = When (InRange (networkOf f) q → ⊥) } ∷ []
 
 module _ (f : List ℕ) where
+  -- each row has one place: 0, or the lowest record of which its test fails
   faults-then : (s : List Row) → OnePlaces s → OnePlaces (faults f ++ s)
   faults-then s o = (fails-one _, (fails-one _, (fails-one _, (fails-one _, (lowest-one _ _, (lowest-one _ _, o))))))
-
-  -- each row has one place: 0, or the lowest record of which its test fails
-  pub faults-one-place : OnePlaces (faults f)
-  faults-one-place = faults-then [] tt
 
   pub refusals-one-place : (room : ℕ) → OnePlaces (refusals f room)
   refusals-one-place room = faults-then (later-rows f room) (fails-one _, (when-one _, (when-one _, tt)))
@@ -157,15 +160,8 @@ module _ (f : List ℕ) where
   pub refusals-rising : (room : ℕ) → Rising 0 (refusals f room)
   refusals-rising room = omega arith
 
-  pub question-rising : (q : Question) → Rising 0 (questionRefusals f q)
-  question-rising q = omega arith
-
   pub faults-numbered : Numbered (faults f)
   faults-numbered = omega arith
-
-  -- "A file, or its network, is accepted when no refusal that comes before 7 applies.": when a look at it gives 0
-  pub accepted-given : Accepted f ↔ Given (faults f) 0 0
-  accepted-given = (clear-given (faults f), given-clear (faults f) faults-numbered 0)
 
 -- ---- the cases from their numbers and places: "a definition gives this paper's number and values for each of its cases"
 
@@ -182,29 +178,14 @@ module _ {E : Type 0} (none : E) (file : Fault → E) (rest : List E) (last : E)
   file-back (Register i) = refl
   file-back (Path p) = refl
 
-fault-numbered : (x : Fault) → 0 < faultNumber x
-fault-numbered Header = omega arith
-fault-numbered Counts = omega arith
-fault-numbered Length = omega arith
-fault-numbered Ranges = omega arith
-fault-numbered (Register i) = omega arith
-fault-numbered (Path p) = omega arith
-
-pub fault-one : (a b : Fault) → faultNumber a ≡ faultNumber b → faultPlace a ≡ faultPlace b → a ≡ b
-fault-one a b n p = sym (back a) ∙ ap₂ (caseOf Header (λ x. x) [] Header) n p ∙ back b
-  where
-    back : (x : Fault) → caseOf Header (λ x. x) [] Header (faultNumber x) (faultPlace x) ≡ x
-    back x = file-back Header (λ x. x) [] Header x
-
-pub verdict-known : (a b : Verdict) → verdictNumber a ≡ verdictNumber b → verdictPlace a ≡ verdictPlace b → a ≡ b
-verdict-known a b n p = sym (back a) ∙ ap₂ verdictOf n p ∙ back b
-  where
-    verdictOf : ℕ → ℕ → Verdict
-    verdictOf = caseOf verdict.Accepted verdict.Faulty [] verdict.Accepted
-
-    back : (v : Verdict) → verdictOf (verdictNumber v) (verdictPlace v) ≡ v
-    back verdict.Accepted = refl
-    back (verdict.Faulty x) = file-back verdict.Accepted verdict.Faulty [] verdict.Accepted x
+-- numbers 1 to 6 are the file's
+pub fault-numbers : (x : Fault) → (0 < faultNumber x) × (faultNumber x < 7)
+fault-numbers Header = omega arith
+fault-numbers Counts = omega arith
+fault-numbers Length = omega arith
+fault-numbers Ranges = omega arith
+fault-numbers (Register i) = omega arith
+fault-numbers (Path p) = omega arith
 
 pub outcome-known : (a b : Outcome) → outcomeNumber a ≡ outcomeNumber b → outcomePlace a ≡ outcomePlace b → a ≡ b
 outcome-known a b n p = sym (back a) ∙ ap₂ outcomeOf n p ∙ back b
@@ -232,13 +213,7 @@ reply-known a b n p h = sym (back a h) ∙ ap₂ replyOf n p ∙ back b (omega a
     back (reply.File x) h = file-back reply.Question reply.File [] reply.Question x
     back reply.Question h = refl
 
--- ---- one finding, one outcome
-
--- "no two different results satisfy it": one finding about a file
-pub verdict-one : (f : List ℕ) (v w : Verdict) → Judged f v → Judged f w → v ≡ w
-verdict-one f v w a b =
-    let e = given-one (faults f) (faults-one-place f) _ _ _ _ a b in
-    verdict-known v w (e .0) (e .1)
+-- ---- one outcome, one reply
 
 -- one outcome, whatever is left in the output
 pub outcome-one : (f before after after′ : List ℕ) (o o′ : Outcome) → Result f before o after → Result f before o′ after′ → o ≡ o′
@@ -247,7 +222,7 @@ outcome-one f before after after′ o o′ a b =
     outcome-known o o′ (e .0) (e .1)
 
 -- a rule is named by its kind and its number
-rule-named : (r s : Rule) → kind r ≡ kind s → number r ≡ number s → r ≡ s
+pub rule-named : (r s : Rule) → kind r ≡ kind s → number r ≡ number s → r ≡ s
 rule-named r s k n = sym (back r) ∙ ap₂ ruleOf k n ∙ back s
   where
     ruleOf : ℕ → ℕ → Rule
@@ -260,7 +235,7 @@ rule-named r s k n = sym (back r) ∙ ap₂ ruleOf k n ∙ back s
     back (High i) = refl
 
 module _ (N : Network) (q : Question) where
-  asked-one : (r s : Rule) → Asked N q r → Asked N q s → r ≡ s
+  pub asked-one : (r s : Rule) → Asked N q r → Asked N q s → r ≡ s
   asked-one r s a b =
       let k = a .of-kind in
       let l = b .of-kind in
@@ -274,13 +249,13 @@ module _ (N : Network) (q : Question) where
   said-one : (a b : Reply) → replyNumber a ≡ replyNumber b → replyPlace a ≡ replyPlace b → Says N q a → Says N q b → a ≡ b
   said-one reply.Yes reply.Yes n p s t = refl
   said-one reply.Yes reply.No n p s t = absurd (clash s t)
-  said-one reply.Yes (reply.File y) n p s t = absurd (omega (arith, fault-numbered y))
+  said-one reply.Yes (reply.File y) n p s t = absurd (omega (arith, fault-numbers y .0))
   said-one reply.Yes reply.Question n p s t = absurd (omega arith)
   said-one reply.No reply.Yes n p s t = absurd (clash t s)
   said-one reply.No reply.No n p s t = refl
-  said-one reply.No (reply.File y) n p s t = absurd (omega (arith, fault-numbered y))
+  said-one reply.No (reply.File y) n p s t = absurd (omega (arith, fault-numbers y .0))
   said-one reply.No reply.Question n p s t = absurd (omega arith)
-  said-one (reply.File x) b n p s t = reply-known (reply.File x) b n p (fault-numbered x)
+  said-one (reply.File x) b n p s t = reply-known (reply.File x) b n p (fault-numbers x .0)
   said-one reply.Question b n p s t = reply-known reply.Question b n p (omega arith)
 
 -- "Yes is given exactly when the named rule's inequality holds.": no two replies answer one question

@@ -1,5 +1,5 @@
 -- Tests that compute, each with what it shows when it passes. A statement over a table is then one test, run once.
-use mathlib.Core.Path.{_≡_}
+use mathlib.Core.Path.{_≡_, refl}
 use mathlib.Core.Logic.{_≢_}
 use mathlib.Core.List.{List, [], _∷_}
 use mathlib.Core.Bool.{Bool, true, false, not, _&&_}
@@ -10,16 +10,13 @@ use lib.IntN.{ℤ}
 use lib.Signed.{leZ, ltZ, _≤ℤ_, _<ℤ_}
 use lib.Dec.{leb, ltb, eqb}
 use borrow.Author.Tests.{leb-true, ltb-true, eqb-true, eqb-false, not-true}
-use Rattle.whole.proofs.Lin.{lin}
+use Rattle.whole.proofs.Lin.{lin, true-not-false}
 use Rattle.paper.specs.Chains.{All}
 use Rattle.paper.proofs.Legal.{both}
 
 pub record Test (A : Type 0) : Type 0 where
   pub passes : Bool
   pub shows : passes ≡ true → A
-
-pub false-not : false ≡ true → ⊥
-false-not e = let z : _≡_ {A = ℕ} 0 1 = cc in omega arith
 
 module _ {A B : Type 0} where
   abbrev pub via : (A → B) → Test A → Test B
@@ -36,7 +33,7 @@ abbrev pub nothing : Test (Unit {0})
 nothing = record { passes = true; shows = λ e. tt }
 
 abbrev pub never : (A : Type 0) → Test A
-never A = record { passes = false; shows = λ e. absurd (false-not e) }
+never A = record { passes = false; shows = λ e. absurd (true-not-false e refl) }
 
 abbrev pub isTrue : (b : Bool) → Test (b ≡ true)
 isTrue b = record { passes = b; shows = λ e. e }

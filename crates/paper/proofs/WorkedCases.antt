@@ -2,7 +2,7 @@
 use mathlib.Core.Path.{_≡_, refl}
 use mathlib.Core.Logic.{inl, inr}
 use mathlib.Core.List.{List, [], _∷_}
-use mathlib.Core.Bool.{Bool, true, false}
+use mathlib.Core.Bool.{Bool, true}
 use Prim.Native.Nat.{ℕ, zero, suc, pred, _+_, _-_, _*_, _≤_, _<_}
 use native.Mathlib.Omega.{arith}
 use lib.IntN.{ℤ, pos, negℤ}
@@ -24,25 +24,16 @@ use Rattle.paper.specs.Cases.{Expected, answered, refused-8, refused-9, 
 use Rattle.paper.proofs.Legal.{accepted-legal}
 use Rattle.paper.proofs.RuleLaws.{met-is-rule}
 use Rattle.paper.proofs.LoopLaws.{contradicts-always, chain-binds-schedule, no-schedule}
-use Rattle.paper.proofs.TableLaws.{later-rows, given-after}
+use Rattle.paper.proofs.TableLaws.{later-rows, given-after, passed, all-passed}
 use Rattle.paper.proofs.Tests.{Test, via, pair, nothing, never, isTrue, less, atMost, same, differ, atMostℤ, lessℤ, every, below}
 
 -- ---- an accepted file
 
-not-false : (b : Bool) → b ≡ true → b ≡ false → ⊥
-not-false b t f = let z : true ≡ false = cc in let y : _≡_ {A = ℕ} 0 1 = cc in omega arith
-
-fails-not : (ok : Bool) → ok ≡ true → (p : ℕ) → Fails ok p → ⊥
-fails-not ok t p f = not-false ok t (f .0)
-
-lowest-not : (ok : ℕ → Bool) (n : ℕ) → ((i : ℕ) → i < n → ok i ≡ true) → (p : ℕ) → Lowest ok n p → ⊥
-lowest-not ok n t p l = not-false (ok p) (t p (l .0)) (l .1)
-
 abbrev passing : (ok : Bool) → Test ((p : ℕ) → Fails ok p → ⊥)
-passing ok = via (fails-not ok) (isTrue ok)
+passing ok = via (passed {ok = ok}) (isTrue ok)
 
 abbrev all-passing : (ok : ℕ → Bool) (n : ℕ) → Test ((p : ℕ) → Lowest ok n p → ⊥)
-all-passing ok n = via (lowest-not ok n) (below (λ i. ok i ≡ true) (λ i. isTrue (ok i)) n)
+all-passing ok n = via (all-passed {ok = ok} {n = n}) (below (λ i. ok i ≡ true) (λ i. isTrue (ok i)) n)
 
 abbrev acceptedTest : (f : List ℕ) → Test (Accepted f)
 acceptedTest f =
@@ -207,7 +198,7 @@ module _ (N : Network) (w : Witness) where
 -- "given exactly when": what comes of an accepted file fixes the number that is returned
 module _ (f : List ℕ) (a : Accepted f) (room : ℕ) (enough : 14 + 16 * registers f ≤ room) where
   roomy : (p : ℕ) → Fails (leb (14 + 16 * registers f) room) p → ⊥
-  roomy = fails-not (leb (14 + 16 * registers f) room) (le-leb _ _ enough)
+  roomy = passed (le-leb _ _ enough)
 
   answer-given : (P : ℕ) (x : ℕ → ℤ) → Answer (networkOf f) P x → Given (refusals f room) 0 0
   answer-given P x h =

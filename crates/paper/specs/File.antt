@@ -89,7 +89,7 @@ module _ (f : List ℕ) where
       && leZ (pos 0) (numberAt f (pathPlace p + 10))
       && within (numberAt f (pathPlace p + 10)) (pos 1000000) (numberAt f (pathPlace p + 14))
 
-  -- the network that the file means; today every path is charged the header's u
+  -- the network that the file means; every path is charged the header's u
   unfoldable pub networkOf : Network
   networkOf =
       record {

@@ -2,8 +2,9 @@
 --
 -- "A second public question names a file, a period, a rule by kind and number, and the latencies at the arrow's tail and head, and says
 -- whether the rule is met. It answers 1 to 6 as above, then 10 if the period is outside 1 to 10,000,000, a latency is outside -1,000,000
--- to 1,000,000, or the rule doesn't exist. [..] Yes is given exactly when the named rule's inequality holds. Yes and no both come with
--- number 0 and place 0; a refusal carries neither."
+-- to 1,000,000, or the rule doesn't exist; a host latency other than 0 isn't refused: setup and hold use it as given, low and high don't
+-- read it. Yes is given exactly when the named rule's inequality holds. Yes and no both come with number 0 and place 0; a refusal carries
+-- neither. On a self path the two latencies are taken as given, even when they differ."
 use mathlib.Core.Path.{_≡_}
 use mathlib.Core.List.{List, [], _∷_, _++_}
 use mathlib.Core.Bool.{true}

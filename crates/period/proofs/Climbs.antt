@@ -1,40 +1,25 @@
 -- The climb over the periods: what holds at each period that is tried, and each way that a trial ends.
-use mathlib.Core.Path.{_≡_, refl, sym, ap, _∙_}
-use mathlib.Core.List.{List, [], _∷_, map, _++_}
-use Prim.Native.Nat.{ℕ, zero, suc, _+_, _-_, _*_, _≤_, _<_}
+use mathlib.Core.Path.{_≡_, refl, sym}
+use mathlib.Core.List.{List, [], _∷_}
+use Prim.Native.Nat.{ℕ, _-_, _≤_, _<_}
 use native.Mathlib.Omega.{arith}
 use native.Mathlib.Decide.{ℕ-discrete}
-use lib.ListN.{length, getD, take}
-use lib.IntN.{ℤ, pos, negsuc}
-use lib.Signed.{_≤ℤ_, _<ℤ_}
+use lib.ListN.{take}
+use lib.IntN.{ℤ, pos}
+use lib.Signed.{_<ℤ_}
 use Rattle.whole.proofs.Lin.{lin}
-use Rattle.whole.specs.Sums.{total}
 use Rattle.paper.specs.Network.{Network}
 use Rattle.paper.specs.Rules.{Rule}
-use Rattle.paper.specs.Chains.{All, Listed}
-use Rattle.paper.specs.Schedule.{Answer, Shown, Refutes, IsLoop, setups, need}
-use Rattle.paper.specs.Refusals.{Scheduled, NoPeriod, NoneToCeiling}
-use Rattle.paper.specs.Output.{Answered, NoneToCeilingShown, NoPeriodShown, Front, LoopAlone, skewRecord, latencyRecords, entryRecords}
-use Rattle.loops.specs.Arrows.{Arrows, Least, Contradicts, tail, head}
-use Rattle.loops.specs.Layout.{Lays, ruleAt, ruleCount, fixedCount}
-use Rattle.loops.specs.Needs.{LeastSchedule, RefutesAlways}
+use Rattle.paper.specs.Schedule.{Answer, Shown, Refutes, setups, need}
+use Rattle.paper.specs.Refusals.{Scheduled, NoneToCeiling}
+use Rattle.loops.specs.Arrows.{Arrows}
+use Rattle.loops.specs.Layout.{Lays, ruleCount}
 use Rattle.loops.specs.Model.{at}
-use Rattle.loops.proofs.Transfer.{least-is, loop-refutes, loop-length, fixed-refutes, fixed-scheduled}
-use Rattle.loops.proofs.Feasible.{free-loop-no-period, always-no-period, refutes-none-to-ceiling}
+use Rattle.loops.proofs.Transfer.{least-is, loop-refutes}
+use Rattle.loops.proofs.Feasible.{free-loop-no-period, refutes-none-to-ceiling}
 use Rattle.loops.proofs.Climb.{refutes-below-need, need-next, shown-answer}
 use Rattle.rounds.specs.Relaxation.{Rests, Shows}
-
--- the rules of a loop that is listed by its arrows
-abbrev pub rulesOf : Network → List ℕ → List Rule
-rulesOf N l = map (ruleAt N) l
-
--- a period that is tried, P: from floor to ceiling, with the loop that shows that no smaller one has a schedule
-pub record Climbing (N : Network) (P : ℕ) (ring : List ℕ) (kept : ℕ) : Type 0 where
-  pub from-floor : N .floor ≤ P
-  pub to-ceiling : P ≤ N .ceiling
-  pub shown : Shown N P (rulesOf N (take kept ring))
-  pub short : kept ≤ N .registers
-  pub exist : All (λ e. e < ruleCount N) (take kept ring)
+use Rattle.period.specs.Start.{rulesOf, Climbing}
 
 -- a loop has a rule
 shown-loop : (N : Network) (Q : ℕ) (l : List Rule) → N .floor < Q → Refutes N (Q - 1) l → Shown N Q l
@@ -87,3 +72,16 @@ module _ (N : Network) where
               exist = rw (e, sym whole) (s .contradicts .exist);
             },
           )
+
+      -- the loop's need is above the ceiling: the ceiling itself may be tried, since the loop contradicts itself just below it
+      pub climbing-up-to : (ring′ : List ℕ) (entries : ℕ) → take entries ring′ ≡ l → entries ≤ N .registers → pos (N .ceiling) <ℤ need N (rulesOf N l)
+          → N .floor < N .ceiling → Climbing N (N .ceiling) ring′ entries
+      climbing-up-to ring′ entries e room over up =
+          let below = refutes-below-need N P (N .ceiling - 1) (rulesOf N l) has-setups refutes (omega lin) in
+          record {
+            from-floor = omega arith;
+            to-ceiling = omega arith;
+            shown = rw e (shown-loop N (N .ceiling) (rulesOf N l) up below);
+            short = room;
+            exist = rw (e, sym whole) (s .contradicts .exist);
+          }

@@ -1,28 +1,26 @@
 -- The three ends of the search, each with its output's bytes: no period, however large; none up to the ceiling; the answer.
-use mathlib.Core.Path.{_≡_, sym, _∙_, subst, subst₂}
-use mathlib.Core.List.{List, map, _++_}
-use Prim.Native.Nat.{ℕ, zero, suc, _+_, _*_, _≤_, _<_}
+use mathlib.Core.Path.{_≡_}
+use mathlib.Core.List.{List, _++_}
+use Prim.Native.Nat.{ℕ, zero, suc, _≤_, _<_}
 use native.Mathlib.Omega.{arith}
 use lib.ListN.{length, take}
-use lib.Seq.{length-take-le}
 use lib.IntN.{ℤ}
 use Rattle.paper.specs.Network.{Network}
-use Rattle.paper.specs.Rules.{Rule}
 use Rattle.paper.specs.Chains.{All}
 use Rattle.paper.specs.Schedule.{Answer, Refutes}
 use Rattle.paper.specs.Refusals.{NoneToCeiling}
 use Rattle.paper.specs.Output.{Answered, Front, skewRecord, latencyRecords, entryRecords}
 use Rattle.paper.specs.declared.Outcome.the-variants as outcome
+use Rattle.paper.proofs.LoopLaws.{all-map}
 use Rattle.loops.specs.Arrows.{Arrows}
-use Rattle.loops.specs.Layout.{Lays, ruleAt, ruleCount, fixedCount}
-use Rattle.loops.specs.Needs.{RefutesAlways}
+use Rattle.loops.specs.Layout.{Lays, ruleCount, fixedCount}
 use Rattle.loops.specs.Model.{at}
-use Rattle.loops.proofs.Bind.{all-map}
-use Rattle.loops.proofs.Transfer.{loop-length, fixed-refutes, fixed-scheduled}
+use Rattle.loops.proofs.Transfer.{fixed-refutes, fixed-scheduled}
 use Rattle.loops.proofs.Feasible.{always-no-period}
 use Rattle.rounds.specs.Relaxation.{Relaxed}
+use Rattle.answer.proofs.Callers.{answered-bytes, alone-bytes}
 use Rattle.period.specs.Solved.{Solved, Freed}
-use Rattle.period.proofs.Climbs.{rulesOf, Climbing}
+use Rattle.period.specs.Start.{rulesOf, Climbing}
 
 module _ (N : Network) where
   -- the rules that do not know the period, relaxed
@@ -40,26 +38,18 @@ module _ (N : Network) where
       exist zero r = tt
       exist (suc k) r = all-map (λ e h. let w = lays .within in omega arith) (take (suc k) ring) (r .circled (omega arith) .contradicts .exist)
 
-  -- a loop's list has as many entries as were taken
-  entries-are : (ring : List ℕ) (entries : ℕ) → entries ≤ length ring → length (rulesOf N (take entries ring)) ≡ entries
-  entries-are ring entries h = loop-length N (take entries ring) ∙ length-take-le entries ring h
-
   module _ (before after ring : List ℕ) (entries : ℕ) (room : entries ≤ length ring) where
-    alone : Front (skewRecord 0 0 entries ++ entryRecords (rulesOf N (take entries ring))) before after
-        → Front (skewRecord 0 0 (length (rulesOf N (take entries ring))) ++ entryRecords (rulesOf N (take entries ring))) before after
-    alone f = subst (λ k. Front (skewRecord 0 0 k ++ entryRecords (rulesOf N (take entries ring))) before after) (sym (entries-are ring entries room)) f
-
     pub ends-no-period : Freed N ring entries → 0 < entries → Front (skewRecord 0 0 entries ++ entryRecords (rulesOf N (take entries ring))) before after
         → Solved N before outcome.NoPeriod after
     ends-no-period f h bytes =
         let r = f .none h in (
           always-no-period N (rulesOf N (take entries ring)) r,
-          record { loop = rulesOf N (take entries ring); no-setups = r .no-setups; refutes = r .refutes; bytes = alone bytes },
+          record { loop = rulesOf N (take entries ring); no-setups = r .no-setups; refutes = r .refutes; bytes = alone-bytes N ring entries room before after bytes },
         )
 
     pub ends-none : NoneToCeiling N × Refutes N (N .ceiling) (rulesOf N (take entries ring))
         → Front (skewRecord 0 0 entries ++ entryRecords (rulesOf N (take entries ring))) before after → Solved N before outcome.NoneToCeiling after
-    ends-none r bytes = (r .0, record { loop = rulesOf N (take entries ring); refutes = r .1; bytes = alone bytes })
+    ends-none r bytes = (r .0, record { loop = rulesOf N (take entries ring); refutes = r .1; bytes = alone-bytes N ring entries room before after bytes })
 
     pub ends-answered : (n P : ℕ) (row : List ℤ) → n ≡ N .registers → Climbing N P ring entries → Answer N P (at row)
         → Front (skewRecord P n entries ++ latencyRecords (at row) n ++ entryRecords (rulesOf N (take entries ring))) before after
@@ -71,7 +61,5 @@ module _ (N : Network) where
           loop = rulesOf N (take entries ring);
           answer = a;
           shown = c .shown;
-          bytes =
-              subst₂ (λ k i. Front (skewRecord P i k ++ latencyRecords (at row) i ++ entryRecords (rulesOf N (take entries ring))) before after)
-              (sym (entries-are ring entries room)) e bytes;
+          bytes = answered-bytes N ring entries room before after P n (at row) e bytes;
         }

@@ -6,9 +6,10 @@ use native.Mathlib.Omega.{arith}
 use lib.IntN.{ℤ}
 use Rattle.paper.specs.Network.{Network}
 use Rattle.paper.proofs.Legal.{Legal}
+use Rattle.loops.specs.Arrows.{arrows}
 use Rattle.loops.specs.Layout.{Lays, fixedCount}
 use Rattle.arrows.proofs.Laid.{rules-few, lays-modest, lays-highs, lays-joined}
-use Rattle.rounds.specs.Shape.{arrows, Shape}
+use Rattle.rounds.specs.Shape.{Shape}
 use Rattle.rounds.specs.Relaxation.{Bounded}
 use Rattle.arrows.specs.Filled.{Room}
 

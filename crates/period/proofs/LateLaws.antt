@@ -11,7 +11,6 @@ use lib.ListN.{length, getD, take}
 use lib.Seq.{take-suc}
 use borrow.Author.Tests.{lt-ltb, le-ltb}
 use Rattle.paper.specs.Network.{Network}
-use Rattle.paper.specs.Chains.{All}
 use Rattle.paper.specs.Schedule.{setups}
 use Rattle.loops.specs.Layout.{fixedCount, ruleAt}
 use Rattle.loops.proofs.Places.{rule-fixed, rule-setup}
@@ -49,25 +48,6 @@ at-most-one false = omega arith
 pub late-most : (fixed : ℕ) (l : List ℕ) → late fixed l ≤ length l
 late-most fixed [] = omega arith
 late-most fixed (e ∷ l) = omega (arith, late-cons fixed e l, at-most-one (ltb e fixed), late-most fixed l)
-
--- no late place: every place stands in the prefix
-pub late-none : (fixed : ℕ) (l : List ℕ) → late fixed l ≡ 0 → All (λ e. e < fixed) l
-late-none fixed [] h = tt
-late-none fixed (e ∷ l) h =
-    let k = late-cons fixed e l in
-    (first (decLt e fixed), late-none fixed l (omega arith))
-  where
-    first : Dec (e < fixed) → e < fixed
-    first (yes b) = b
-    first (no b) = absurd (omega (arith, late-cons fixed e l, late-here fixed e (omega arith)))
-
--- so a list that does not lie in the prefix has a late place
-pub late-some : (fixed : ℕ) (l : List ℕ) → (All (λ e. e < fixed) l → ⊥) → 0 < late fixed l
-late-some fixed l h = some (decLt 0 (late fixed l))
-  where
-    some : Dec (0 < late fixed l) → 0 < late fixed l
-    some (yes b) = b
-    some (no b) = absurd (h (late-none fixed l (omega arith)))
 
 module _ (N : Network) where
   late-rule : (e : ℕ) → Dec (e < fixedCount N) → late (fixedCount N) (e ∷ []) ≡ setups (ruleAt N e ∷ [])

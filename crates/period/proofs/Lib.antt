@@ -6,3 +6,4 @@ pub mod Laid
 pub mod Climbs
 pub mod Ends
 pub mod Trials
+pub mod Guesses

@@ -7,17 +7,16 @@ use native.Mathlib.Omega.{arith}
 use lib.ListN.{length, take}
 use lib.Seq.{length-take-le}
 use lib.IntN.{pos, _+ℤ_}
-use lib.Signed.{_≤ℤ_, _<ℤ_}
+use lib.Signed.{_≤ℤ_}
 use Rattle.whole.specs.Sums.{total}
 use Rattle.whole.specs.Rounding.{roundUp}
 use Rattle.whole.proofs.Lin.{lin}
 use Rattle.paper.specs.Network.{Network}
 use Rattle.paper.specs.Chains.{All}
 use Rattle.paper.specs.Schedule.{setups, need}
-use Rattle.paper.proofs.LoopLaws.{need-from, contradicts-below-need}
+use Rattle.paper.proofs.LoopLaws.{need-from, all-map}
 use Rattle.loops.specs.Arrows.{Arrows, amount}
 use Rattle.loops.specs.Layout.{fixedCount, ruleAt, Lays}
-use Rattle.loops.proofs.Bind.{all-map}
 use Rattle.loops.proofs.Transfer.{loop-total}
 use Rattle.rounds.specs.Shape.{Shape}
 use Rattle.period.specs.Late.{late}
@@ -32,12 +31,6 @@ module _ (N : Network) (P : ℕ) (Γ : Arrows) (y : Lays N P Γ) (fixed : ℕ) (
   need-is =
       let k = late-are-setups in
       rw (loop-total N P Γ y l exist, k) (sym (need-from N P (map (ruleAt N) l) (omega arith)))
-
-  -- a loop that contradicts itself at the period needs a longer one
-  pub need-above : pos 0 <ℤ total (amount Γ) l → pos P <ℤ need N (map (ruleAt N) l)
-  need-above over =
-      let k = late-are-setups in
-      contradicts-below-need N P (map (ruleAt N) l) (omega arith) .0 (rw (loop-total N P Γ y l exist) at over)
 
 -- the amounts of at most 256 arrows add up to at most 2 ^ 30
 pub loop-most : (Γ : Arrows) → Shape Γ → (ring : List ℕ) (entries : ℕ) → entries ≤ length ring → entries ≤ Γ .registers

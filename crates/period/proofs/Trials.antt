@@ -3,7 +3,7 @@ use mathlib.Core.Path.{_≡_, refl, sym, ap, _∙_}
 use mathlib.Core.List.{List, _++_}
 use Prim.Native.Nat.{ℕ, _+_, _*_, _-_, _≤_, _<_}
 use native.Mathlib.Omega.{arith}
-use lib.ListN.{length, getD, take}
+use lib.ListN.{length, take}
 use lib.IntN.{ℤ, pos}
 use lib.Signed.{_≤ℤ_, _<ℤ_}
 use Rattle.whole.proofs.Lin.{lin}
@@ -27,7 +27,8 @@ use Rattle.period.proofs.Ends.{ends-answered, ends-none}
 use Rattle.arrows.specs.Filled.{Filled, Period}
 use Rattle.answer.specs.Records.{Listed}
 use Rattle.period.specs.Memory.{SomePeriod}
-use Rattle.period.proofs.Climbs.{rulesOf, Climbing, climbing-answers, climbing-none, climbing-on, has-setups, refutes}
+use Rattle.period.specs.Start.{rulesOf, Climbing, Begins}
+use Rattle.period.proofs.Climbs.{climbing-answers, climbing-none, climbing-on, has-setups, refutes}
 use Rattle.period.proofs.Sums.{all-taken}
 
 pub record Trial (N : Network) (n : ℕ) (tails heads : List ℕ) (first amounts bases a b : List ℤ) (p old ring : List ℕ) (period : ℤ) (kept : ℕ) : Type 0 where
@@ -67,6 +68,10 @@ module _ (N : Network) (legal : Legal N) where
         enough = room;
         places = λ j h. let l = all-taken (λ e. e < ruleCount N) ring entries room all j h in omega arith;
       }
+
+-- the beginning of a climb, by a number that is the period
+pub begins-as : (N : Network) (ring : List ℕ) (kept : ℕ) (x z : ℤ) → x ≡ z → Begins N z ring kept → Begins N x ring kept
+begins-as N ring kept x z e b = rw e b
 
 -- a number that is a natural one
 pub natural-of : (z : ℤ) (k : ℕ) → z ≡ pos k → (z ≡ pos (natural z)) × (natural z ≡ k)

@@ -1,3 +1,4 @@
 pub mod Late
+pub mod Start
 pub mod Solved
 pub mod Memory

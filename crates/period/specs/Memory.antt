@@ -6,14 +6,17 @@ use lib.ListN.{length}
 use lib.IntN.{ℤ, pos}
 use Rattle.paper.specs.Network.{Network}
 use Rattle.paper.specs.Refusals.{Scheduled}
-use Rattle.arrows.specs.Filled.{Filled}
 
 -- the numbers in hand are the network's
-pub record Counts (N : Network) (n m : ℕ) (floor ceiling : ℤ) : Type 0 where
+pub record Bounds (N : Network) (n m : ℕ) (ceiling : ℤ) : Type 0 where
   pub registers : n ≡ N .registers
   pub paths : m ≡ N .paths
-  pub from : floor ≡ pos (N .floor)
   pub to : ceiling ≡ pos (N .ceiling)
+
+-- and the floor too
+pub record Counts (N : Network) (n m : ℕ) (floor ceiling : ℤ) : Type 0 where
+  pub bounds : Bounds N n m ceiling
+  pub from : floor ≡ pos (N .floor)
 
 -- rows and preds of one entry a register, and room for a loop and for the output
 pub record Sizes (n : ℕ) (a b : List ℤ) (p ring out : List ℕ) : Type 0 where

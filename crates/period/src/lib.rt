@@ -1,17 +1,19 @@
-// The search for the smallest period: first the rules that do not know it, then a climb from the floor, each contradicting loop's need as
-// the next period.
+// The search for the smallest period: first the rules that do not know it, then a climb from the floor or from the need of a first loop, each
+// contradicting loop's need as the next period.
 ghost use mathlib.Core.Path.{_≡_};
-ghost use Prim.Native.Nat.{ℕ, _+_, _*_, _≤_, _<_};
+ghost use Prim.Native.Nat.{_+_, _*_, _≤_, _<_};
 ghost use lib.ListN.{length};
-ghost use lib.IntN.{pos};
 ghost use Rattle.paper.specs.File.{networkOf};
 ghost use Rattle.paper.specs.Refusals.{Accepted};
 ghost use Rattle.arrows.specs.Filled.{Filled};
-ghost use Rattle.period.specs.Memory.{Counts, Sizes, SomePeriod};
+ghost use Rattle.period.specs.Memory.{Bounds, Counts, Sizes, SomePeriod};
+ghost use Rattle.period.specs.Start.{Begins};
 ghost use Rattle.period.specs.Solved.{Solved, Freed};
 
 mod need;
+mod start;
 
+use crate::start::begin;
 use answer::answered;
 use answer::loop_alone;
 use arrows::at_period;
@@ -44,8 +46,53 @@ fn free(
     entries
 }
 
-// From the floor up. The loop that is kept contradicts itself at the period before the one that is tried.
+// From the period at which the climb begins up. The loop that is kept contradicts itself at the period before the one that is tried.
 fn climb(
+    file: &[u8],
+    n: usize,
+    m: usize,
+    begun: i32,
+    ceiling: i32,
+    tail: &[u16],
+    head: &[u16],
+    amount: &mut [i32],
+    base: &[i32],
+    a: &mut [i32],
+    b: &mut [i32],
+    p: &mut [u16],
+    ring: &mut [u16],
+    out: &mut [u8],
+    shown: usize,
+) -> Outcome
+    requires { ⌜ (Accepted (now file)) × (Bounds (networkOf (now file)) n m ceiling) × (SomePeriod (networkOf (now file))) ⌝ }
+    requires { ⌜ Filled (networkOf (now file)) (now tail) (now head) (now amount) (now base) ⌝ }
+    requires { ⌜ Begins (networkOf (now file)) begun (now ring) shown ⌝ }
+    requires { ⌜ Sizes n (now a) (now b) (now p) (now ring) (now out) ⌝ }
+    ensures { λ r. ⌜ Solved (networkOf (now (file .entry))) (now (out .entry)) r (now (out .exit)) ⌝ }
+{
+    let all = 2 * (n - 1) + 2 * m;
+    let mut period = begun;
+    let mut kept = shown;
+    loop {
+        at_period(file, n, m, period, tail, head, amount, base);
+        let mut entries = 0;
+        let row = relax(tail, head, amount, n, all, a, b, p, ring, &mut entries);
+        if entries == 0 {
+            answered(out, period, row, n, m, ring, kept);
+            return Outcome::Answered;
+        }
+        let above = need::next(tail, head, amount, n, m, period, ring, entries);
+        if ceiling < above {
+            loop_alone(out, n, m, ring, entries);
+            return Outcome::NoneToCeiling;
+        }
+        kept = entries;
+        period = above;
+    }
+}
+
+// Where some period has a schedule: finds where to begin, and climbs from there.
+fn ascend(
     file: &[u8],
     n: usize,
     m: usize,
@@ -66,28 +113,41 @@ fn climb(
     requires { ⌜ Sizes n (now a) (now b) (now p) (now ring) (now out) ⌝ }
     ensures { λ r. ⌜ Solved (networkOf (now (file .entry))) (now (out .entry)) r (now (out .exit)) ⌝ }
 {
-    let all = 2 * (n - 1) + 2 * m;
-    let mut period = floor;
-    let mut kept = 0;
-    loop {
-        at_period(file, n, m, period, tail, head, amount, base);
-        let mut entries = 0;
-        let row = relax(tail, head, amount, n, all, a, b, p, ring, &mut entries);
-        if entries == 0 {
-            answered(out, period, row, n, m, ring, kept);
-            return Outcome::Answered;
-        }
-        let above = need::next(tail, head, amount, n, m, period, ring, entries);
-        if ceiling < above {
-            loop_alone(out, n, m, ring, entries);
-            return Outcome::NoneToCeiling;
-        }
-        kept = entries;
-        period = above;
-    }
+    let start = begin(
+        file,
+        n,
+        m,
+        floor,
+        ceiling,
+        tail,
+        head,
+        amount,
+        base,
+        p,
+        ring,
+    );
+    let begun = start.period;
+    let shown = start.kept;
+    climb(
+        file,
+        n,
+        m,
+        begun,
+        ceiling,
+        tail,
+        head,
+        amount,
+        base,
+        a,
+        b,
+        p,
+        ring,
+        out,
+        shown,
+    )
 }
 
-// The two parts of the search, over memory that is lent.
+// The parts of the search, over memory that is lent.
 fn search(
     file: &[u8],
     n: usize,
@@ -114,7 +174,7 @@ fn search(
         loop_alone(out, n, m, ring, entries);
         return Outcome::NoPeriod;
     }
-    climb(
+    ascend(
         file,
         n,
         m,

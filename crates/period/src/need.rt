@@ -11,12 +11,13 @@ ghost use Rattle.whole.specs.Rounding.{roundUp};
 ghost use Rattle.paper.specs.Network.{Network};
 ghost use Rattle.paper.specs.Chains.{All};
 ghost use Rattle.paper.specs.Schedule.{need};
+ghost use Rattle.loops.specs.Arrows.{arrows};
 ghost use Rattle.loops.specs.Layout.{ruleAt, Lays};
-ghost use Rattle.rounds.specs.Shape.{arrows, Shape};
+ghost use Rattle.rounds.specs.Shape.{Shape};
 ghost use Rattle.period.specs.Late.{late};
 
 // What the amounts of the listed arrows add up to. A loop's sum can leave 32 bits, so it is kept in 64.
-fn total_of(amount: &[i32], ring: &[u16], entries: usize) -> i64
+pub fn total_of(amount: &[i32], ring: &[u16], entries: usize) -> i64
     requires { ⌜ (entries ≤ length (now ring)) × (entries ≤ 256) ⌝ }
     requires { ⌜ ((j : ℕ) → j < entries → getD (now ring) j 0 < length (now amount)) ⌝ }
     ensures { λ r. ⌜ r ≡ total (λ e. getD (now (amount .entry)) e (pos 0)) (take entries (now (ring .entry))) ⌝ }

@@ -1,5 +1,5 @@
 -- What the preds give a register: 0 where it has none; else what they give the pred's tail, and the pred's amount.
-use mathlib.Core.Path.{_≡_, refl, sym, ap, _∙_}
+use mathlib.Core.Path.{_≡_, ap, _∙_}
 use mathlib.Core.List.{List}
 use Prim.Native.Nat.{ℕ, zero, suc, _≤_, _<_}
 use native.Mathlib.Omega.{arith}
@@ -8,7 +8,6 @@ use Rattle.whole.proofs.Lin.{lin, negs}
 use Rattle.loops.specs.Arrows.{Arrows, tail, amount}
 use Rattle.loops.specs.Model.{pred, worth}
 use Rattle.loops.specs.Forest.{Deep, Grounded}
-use Rattle.loops.proofs.Grounded.{deep-one}
 use Rattle.loops.proofs.Worth.{worth-next, worth-root}
 use Rattle.rounds.specs.Settling.{Gives}
 
@@ -38,7 +37,3 @@ module _ (Γ : Arrows) (p : List ℕ) where
 
   pub gives-grounded : (v : ℕ) (z : ℤ) → Gives Γ p v z → Grounded Γ p v
   gives-grounded v z g = (g .depth, g .deep)
-
-  pub gives-one : (v : ℕ) (z y : ℤ) → Gives Γ p v z → Gives Γ p v y → z ≡ y
-  gives-one v z y g h =
-      sym (g .time) ∙ ap (λ d. worth Γ p d v) (deep-one Γ p _ _ v (g .deep) (h .deep)) ∙ h .time

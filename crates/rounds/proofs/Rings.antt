@@ -2,18 +2,22 @@
 -- the code; the trail written from its end; and what the circle that is found is good for.
 use mathlib.Core.Path.{_≡_, refl, sym, ap, _∙_}
 use mathlib.Core.Logic.{_≢_}
-use mathlib.Core.Bool.{false}
+use mathlib.Core.Bool.{true, false}
 use mathlib.Core.List.{List, _∷_, _++_}
 use Prim.Native.Nat.{ℕ, suc, _+_, _-_, _≤_, _<_}
 use native.Mathlib.Omega.{arith}
 use native.Mathlib.Numerals.{add-one}
 use lib.ListN.{length, drop, set, length-set}
 use lib.Seq.{drop-cons, drop-set-lt, getD-set-same}
-use borrow.Author.Tests.{lt-ltb, le-ltb, eq-eqb, ne-eqb}
+use lib.Dec.{leb}
+use native.Mathlib.Decide.{decLt}
+use borrow.Author.Tests.{lt-ltb, le-ltb, lt-leb, le-leb, eq-eqb, ne-eqb}
 use Rattle.loops.specs.Arrows.{Arrows, Sound, tail}
-use Rattle.loops.specs.Model.{pred, back, trail, allRooted, around, Ring, circleFrom, circle, circleArrows}
+use Rattle.loops.specs.Model.{pred, back, trail, rooted, around, lowest, circleStart, circleFrom, circleArrows}
 use Rattle.loops.specs.Forest.{Arrowed}
 use Rattle.loops.proofs.Grounded.{back-below}
+use Rattle.loops.proofs.Rooted.{deep-rooted, rooted-next, unrooted-arrows}
+use Rattle.loops.proofs.Circles.{unrooted-ends, returns-arrows}
 use Rattle.loops.proofs.Search.{circle-found}
 use Rattle.loops.proofs.Trails.{circle-short}
 
@@ -47,22 +51,15 @@ module _ (Γ : Arrows) (p : List ℕ) (s : ℕ) where
   unfolding around
   walked-home k v h a e w = sym (ahead k v h w ∙ rw (lt-ltb (pred p v) (Γ .count) a, eq-eqb (tail Γ (pred p v)) s e, around) (omega arith))
 
-  -- the next step comes below s
-  pub walked-low : (k v : ℕ) → k < Γ .registers → pred p v < Γ .count → tail Γ (pred p v) < s → Walked Γ p s k v → 0 ≡ around Γ p s (Γ .registers) 0 s
-  unfolding around
-  walked-low k v h a l w =
-      let other : tail Γ (pred p v) ≢ s = omega arith in
-      sym (ahead k v h w ∙ rw (lt-ltb (pred p v) (Γ .count) a, ne-eqb (tail Γ (pred p v)) s other, lt-ltb (tail Γ (pred p v)) s l, around))
-
-  -- the next step comes above s
-  pub walked-more : (k v : ℕ) → Sound Γ → k < Γ .registers → pred p v < Γ .count → tail Γ (pred p v) ≢ s → s ≤ tail Γ (pred p v)
+  -- the next step comes to another
+  pub walked-more : (k v : ℕ) → Sound Γ → k < Γ .registers → pred p v < Γ .count → tail Γ (pred p v) ≢ s
       → Walked Γ p s k v → Walked Γ p s (k + 1) (tail Γ (pred p v))
   unfolding around
-  walked-more k v so h a other over w =
+  walked-more k v so h a other w =
       record {
         so-far = omega arith;
         below = so .leaves (pred p v) a;
-        is-around = rw add-one (ahead k v h w ∙ rw (lt-ltb (pred p v) (Γ .count) a, ne-eqb (tail Γ (pred p v)) s other, le-ltb (tail Γ (pred p v)) s over, around));
+        is-around = rw add-one (ahead k v h w ∙ rw (lt-ltb (pred p v) (Γ .count) a, ne-eqb (tail Γ (pred p v)) s other, around));
       }
 
   -- no step is left
@@ -72,49 +69,126 @@ module _ (Γ : Arrows) (p : List ℕ) (s : ℕ) where
       let none : Γ .registers - k ≡ 0 = omega arith in
       sym (w .is-around ∙ ap (λ i. around Γ p s i k v) none)
 
--- ---- from register to register
+-- ---- whether the walk ends
 
--- from none of the registers below s a circle was found, so the model's search goes on from s
-pub record Sought (Γ : Arrows) (p : List ℕ) (s : ℕ) : Type 0 where
-  pub so-far : s ≤ Γ .registers
-  pub is-circle : circle Γ p ≡ circleFrom Γ p (Γ .registers - s) s
+-- the walk from s stands at v after k steps, and is rooted where it is from there
+pub record Followed (Γ : Arrows) (p : List ℕ) (s k v : ℕ) : Type 0 where
+  pub so-far : k ≤ Γ .registers
+  pub below : v < Γ .registers
+  pub is-rooted : rooted Γ p (Γ .registers) s ≡ rooted Γ p (Γ .registers - k) v
 
-abbrev ring : ℕ → ℕ → Ring
-ring start steps = record { start = start; steps = steps }
-
--- the two numbers are those of the circle that the model finds
-abbrev pub IsCircle : Arrows → List ℕ → ℕ → ℕ → Type 0
-IsCircle Γ p start steps = (start ≡ circle Γ p .start) × (steps ≡ circle Γ p .steps)
-
-module _ (Γ : Arrows) (p : List ℕ) where
-  pub sought-none : Sought Γ p 0
-  sought-none =
+module _ (Γ : Arrows) (p : List ℕ) (s : ℕ) where
+  pub followed-none : s < Γ .registers → Followed Γ p s 0 s
+  followed-none h =
       let whole : Γ .registers ≡ Γ .registers - 0 = omega arith in
-      record { so-far = omega arith; is-circle = ap (λ i. circleFrom Γ p i 0) whole }
+      record { so-far = omega arith; below = h; is-rooted = ap (λ i. rooted Γ p i s) whole }
 
-  onward : (s : ℕ) → s < Γ .registers → Sought Γ p s → circle Γ p ≡ circleFrom Γ p (suc (Γ .registers - suc s)) s
-  onward s h w =
-      let one : Γ .registers - s ≡ suc (Γ .registers - suc s) = omega arith in
-      w .is-circle ∙ ap (λ i. circleFrom Γ p i s) one
+  pub followed-root : (k v : ℕ) → Γ .count ≤ pred p v → Followed Γ p s k v → true ≡ rooted Γ p (Γ .registers) s
+  followed-root k v root w = sym (w .is-rooted ∙ deep-rooted Γ p 0 (Γ .registers - k) v root (omega arith))
 
-  pub sought-more : (s k : ℕ) → s < Γ .registers → k ≡ around Γ p s (Γ .registers) 0 s → k ≡ 0 → Sought Γ p s → Sought Γ p (s + 1)
-  unfolding circleFrom
-  sought-more s k h e z w =
-      record { so-far = omega arith; is-circle = rw add-one (onward s h w ∙ rw (eq-eqb (around Γ p s (Γ .registers) 0 s) 0 (sym e ∙ z), circleFrom)) }
+  pub followed-more : (k v : ℕ) → Sound Γ → k < Γ .registers → pred p v < Γ .count → Followed Γ p s k v → Followed Γ p s (k + 1) (tail Γ (pred p v))
+  followed-more k v so h a w =
+      let one : Γ .registers - k ≡ suc (Γ .registers - (k + 1)) = omega arith in
+      record {
+        so-far = omega arith;
+        below = so .leaves (pred p v) a;
+        is-rooted = w .is-rooted ∙ ap (λ i. rooted Γ p i v) one ∙ rooted-next Γ p (Γ .registers - (k + 1)) v a;
+      }
 
-  is-circle-of : (start steps : ℕ) → circle Γ p ≡ ring start steps → IsCircle Γ p start steps
-  is-circle-of start steps e = (sym (ap (λ (r : Ring). r .start) e), sym (ap (λ (r : Ring). r .steps) e))
+  -- no step is left: the last register decides
+  pub followed-all : (k v : ℕ) → Γ .registers ≤ k → Followed Γ p s k v → leb (Γ .count) (pred p v) ≡ rooted Γ p (Γ .registers) s
+  unfolding rooted
+  followed-all k v h w =
+      let none : Γ .registers - k ≡ 0 = omega arith in
+      go (decLt (pred p v) (Γ .count)) (w .is-rooted ∙ ap (λ i. rooted Γ p i v) none)
+    where
+      go : Dec (pred p v < Γ .count) → rooted Γ p (Γ .registers) s ≡ rooted Γ p 0 v → leb (Γ .count) (pred p v) ≡ rooted Γ p (Γ .registers) s
+      go (yes a) e = lt-leb (Γ .count) (pred p v) a ∙ sym (e ∙ rw (lt-ltb (pred p v) (Γ .count) a, rooted))
+      go (no a) e =
+          let root : Γ .count ≤ pred p v = omega arith in
+          le-leb (Γ .count) (pred p v) root ∙ sym (e ∙ deep-rooted Γ p 0 0 v root (omega arith))
 
-  pub sought-found : (s k : ℕ) → s < Γ .registers → k ≡ around Γ p s (Γ .registers) 0 s → k ≢ 0 → Sought Γ p s → IsCircle Γ p s k
-  unfolding circleFrom
-  sought-found s k h e n w =
-      is-circle-of s k (onward s h w ∙ rw (ne-eqb (around Γ p s (Γ .registers) 0 s) 0 (λ z. n (e ∙ z)), circleFrom) (ap (ring s) (sym e)))
+-- ---- onto the circle, and to its lowest register
 
-  pub sought-all : (s : ℕ) → Γ .registers ≤ s → Sought Γ p s → IsCircle Γ p s 0
-  unfolding circleFrom
-  sought-all s h w =
-      let none : Γ .registers - s ≡ 0 = omega arith in
-      is-circle-of s 0 (w .is-circle ∙ ap (λ i. circleFrom Γ p i s) none)
+-- k steps back from s the walk stands at v
+pub record Gone (Γ : Arrows) (p : List ℕ) (s k v : ℕ) : Type 0 where
+  pub so-far : k ≤ Γ .registers
+  pub stands : v ≡ back Γ p k s
+
+-- and low is the lowest register that it met
+pub record Lowered (Γ : Arrows) (p : List ℕ) (s k v low : ℕ) : Type 0 where
+  pub gone : Gone Γ p s k v
+  pub is-lowest : low ≡ lowest Γ p k s
+
+module _ (Γ : Arrows) (p : List ℕ) (s : ℕ) where
+  pub gone-none : Gone Γ p s 0 s
+  unfolding back
+  gone-none = record { so-far = omega arith; stands = refl }
+
+  -- the walk stands at a register, whose pred is an arrow
+  pub gone-below : (k v : ℕ) → Sound Γ → s < Γ .registers → Arrowed Γ p (Γ .registers) s → Gone Γ p s k v → v < Γ .registers
+  gone-below k v so b arrows w = rw (w .stands) (back-below Γ p so k s b (λ j q. arrows j (let h = w .so-far in omega arith)))
+
+  pub gone-arrow : (k v : ℕ) → k < Γ .registers → Arrowed Γ p (Γ .registers) s → Gone Γ p s k v → pred p v < Γ .count
+  gone-arrow k v h arrows w = rw (w .stands) (arrows k h)
+
+  pub gone-more : (k v : ℕ) → k < Γ .registers → Gone Γ p s k v → Gone Γ p s (k + 1) (tail Γ (pred p v))
+  unfolding back
+  gone-more k v h w = record { so-far = omega arith; stands = rw (add-one k, w .stands) refl }
+
+  pub gone-all : (k v : ℕ) → Γ .registers ≤ k → Gone Γ p s k v → v ≡ back Γ p (Γ .registers) s
+  gone-all k v h w = let whole : k ≡ Γ .registers = let q = w .so-far in omega arith in w .stands ∙ ap (λ i. back Γ p i s) whole
+
+  pub lowered-none : Lowered Γ p s 0 s s
+  unfolding lowest
+  lowered-none = record { gone = gone-none; is-lowest = refl }
+
+  -- the next register is lower than all before, or not
+  pub lowered-under : (k v low : ℕ) → k < Γ .registers → tail Γ (pred p v) < low → Lowered Γ p s k v low → Lowered Γ p s (k + 1) (tail Γ (pred p v)) (tail Γ (pred p v))
+  unfolding lowest back
+  lowered-under k v low h under w =
+      let g = gone-more k v h (w .gone) in
+      let here : tail Γ (pred p v) ≡ back Γ p (suc k) s = g .stands ∙ ap (λ i. back Γ p i s) (add-one k) in
+      record { gone = g; is-lowest = rw (add-one k, lt-ltb (back Γ p (suc k) s) (lowest Γ p k s) (let e = w .is-lowest in omega arith), lowest) here }
+
+  pub lowered-over : (k v low : ℕ) → k < Γ .registers → low ≤ tail Γ (pred p v) → Lowered Γ p s k v low → Lowered Γ p s (k + 1) (tail Γ (pred p v)) low
+  unfolding lowest back
+  lowered-over k v low h over w =
+      let g = gone-more k v h (w .gone) in
+      let here : tail Γ (pred p v) ≡ back Γ p (suc k) s = g .stands ∙ ap (λ i. back Γ p i s) (add-one k) in
+      record { gone = g; is-lowest = rw (add-one k, le-ltb (back Γ p (suc k) s) (lowest Γ p k s) (let e = w .is-lowest in omega arith), lowest) (w .is-lowest) }
+
+  pub lowered-all : (k v low : ℕ) → Γ .registers ≤ k → Lowered Γ p s k v low → low ≡ lowest Γ p (Γ .registers) s
+  lowered-all k v low h w = let whole : k ≡ Γ .registers = let q = w .gone .so-far in omega arith in w .is-lowest ∙ ap (λ i. lowest Γ p i s) whole
+
+-- What the walks of the search ask, where s is not grounded: the steps onto the circle go over arrows, and so do those around it.
+pub record Walkable (Γ : Arrows) (p : List ℕ) (s : ℕ) : Type 0 where
+  pub way : Arrowed Γ p (Γ .registers) s
+  pub on : back Γ p (Γ .registers) s < Γ .registers
+  pub round : Arrowed Γ p (Γ .registers) (back Γ p (Γ .registers) s)
+  pub low : circleStart Γ p s < Γ .registers
+
+pub unrooted-walkable : (Γ : Arrows) (p : List ℕ) → Sound Γ → (s : ℕ) → s < Γ .registers → rooted Γ p (Γ .registers) s ≡ false → Walkable Γ p s
+unrooted-walkable Γ p so s b h =
+    let arrows : Arrowed Γ p (Γ .registers) s = λ j q. unrooted-arrows Γ p (Γ .registers) s h j (omega arith) in
+    let w = unrooted-ends Γ p so s b h in
+    record {
+      way = arrows;
+      on = back-below Γ p so (Γ .registers) s b arrows;
+      round = λ j q. returns-arrows Γ p (w .steps) (back Γ p (Γ .registers) s) (w .returns) j;
+      low = circle-found Γ p so s b h .below;
+    }
+
+-- the two numbers are those of the circle on which the walk back from s ends
+abbrev pub IsCircle : Arrows → List ℕ → ℕ → ℕ → ℕ → Type 0
+IsCircle Γ p s start steps = (start ≡ circleFrom Γ p s .start) × (steps ≡ circleFrom Γ p s .steps)
+
+-- each walk of the search goes on from where the one before ended
+pub walks-circle : (Γ : Arrows) (p : List ℕ) (s v low steps : ℕ) → v ≡ back Γ p (Γ .registers) s → low ≡ lowest Γ p (Γ .registers) v
+    → steps ≡ around Γ p low (Γ .registers) 0 low → IsCircle Γ p s low steps
+walks-circle Γ p s v low steps e f g =
+    let start = f ∙ ap (lowest Γ p (Γ .registers)) e in
+    (start, g ∙ ap (λ u. around Γ p u (Γ .registers) 0 u) start)
 
 -- ---- the trail, written from its end
 
@@ -184,21 +258,19 @@ pub record Listable (Γ : Arrows) (p : List ℕ) (start steps : ℕ) : Type 0 wh
   pub short : steps ≤ Γ .registers
   pub arrows : Arrowed Γ p steps start
 
--- Where a register is not rooted the search finds a circle, and the registers on a circle are different, so it is short.
-pub circle-listable : (Γ : Arrows) (p : List ℕ) → Sound Γ → allRooted Γ p ≡ false → Listable Γ p (circle Γ p .start) (circle Γ p .steps)
-circle-listable Γ p so h =
-    let f = circle-found Γ p so h in
-    record {
+-- Where s is not rooted the search finds a circle, and the registers on a circle are different, so it is short.
+pub found-listable : (Γ : Arrows) (p : List ℕ) (s start steps : ℕ) → IsCircle Γ p s start steps → Sound Γ → s < Γ .registers
+    → rooted Γ p (Γ .registers) s ≡ false → Listable Γ p start steps
+found-listable Γ p s start steps (a, b) so q h =
+    let f = circle-found Γ p so s q h in
+    let c = circleFrom Γ p s in
+    rw (a, b) (record {
       start-below = f .below;
       some = f .circle .returns .some;
-      short = circle-short Γ p so (circle Γ p .steps) (circle Γ p .start) (f .below) (f .circle);
+      short = circle-short Γ p so (c .steps) (c .start) (f .below) (f .circle);
       arrows = f .circle .returns .arrows;
-    }
-
--- the same of numbers that are the circle's
-pub found-listable : (Γ : Arrows) (p : List ℕ) (start steps : ℕ) → IsCircle Γ p start steps → Sound Γ → allRooted Γ p ≡ false → Listable Γ p start steps
-found-listable Γ p start steps (a, b) so h = rw (a, b) (circle-listable Γ p so h)
+    })
 
 -- and their trail is the arrows of the circle
-pub found-arrows : (Γ : Arrows) (p : List ℕ) (start steps : ℕ) → IsCircle Γ p start steps → trail Γ p steps start ≡ circleArrows Γ p
-found-arrows Γ p start steps (a, b) = rw (a, b)
+pub found-arrows : (Γ : Arrows) (p : List ℕ) (s start steps : ℕ) → IsCircle Γ p s start steps → trail Γ p steps start ≡ circleArrows Γ p s
+found-arrows Γ p s start steps (a, b) = rw (a, b)

@@ -1,20 +1,20 @@
 -- Registers settled one after another: once all are marked, the row is the model's settled row; a register that is not grounded shows that
 -- the preds are no forest.
-use mathlib.Core.Path.{_≡_, refl, sym, ap, _∙_}
+use mathlib.Core.Path.{_≡_, refl, sym, _∙_}
 use mathlib.Core.Bool.{Bool, true, false}
 use mathlib.Core.List.{List}
-use Prim.Native.Nat.{ℕ, suc, _+_, _≤_, _<_}
+use Prim.Native.Nat.{ℕ, _+_, _≤_, _<_}
 use native.Mathlib.Omega.{arith}
 use native.Mathlib.Numerals.{add-one}
 use lib.ListN.{length, getD}
 use lib.Seq.{ext-getD}
 use lib.IntN.{ℤ, pos}
 use Rattle.loops.specs.Arrows.{Arrows}
-use Rattle.loops.specs.Model.{at, worth, settled}
+use Rattle.loops.specs.Model.{at, settled}
 use Rattle.loops.specs.Forest.{Grounded}
 use Rattle.loops.proofs.Below.{below-next}
 use Rattle.loops.proofs.Grounded.{deep-short}
-use Rattle.loops.proofs.Rooted.{grounded-all, ungrounded-some}
+use Rattle.loops.proofs.Rooted.{grounded-all, stray-none, stray-first}
 use Rattle.loops.proofs.Worth.{worth-deep, settled-length, settled-at}
 use Rattle.rounds.specs.Shape.{Shape}
 use Rattle.rounds.specs.Settling.{Gives, Marked, Put, Settles, Walked, SettledOne}
@@ -49,9 +49,14 @@ module _ (Γ : Arrows) (p : List ℕ) (shape : Shape Γ) where
         done = rw (add-one s) (below-next (λ v. getD marks′ v 0 ≡ 1) s (λ v h. put .kept v (w .done v h)) (put .done));
       }
 
-  pub settles-no : (row : List ℤ) (s : ℕ) → s < Γ .registers → (Grounded Γ p s → ⊥) → Settles Γ p row false
-  settles-no row s b h =
-      record { answer = sym (ungrounded-some Γ p s b h); row-is = λ e. absurd (let z : _≡_ {A = ℕ} 0 1 = cc in omega arith) }
+  -- the registers before s are grounded, and s is not
+  pub settles-no : (old : List ℕ) (row row′ : List ℤ) (marks : List ℕ) (s : ℕ) → s < Γ .registers → Settling Γ p old row marks s
+      → (Grounded Γ p s → ⊥) → Settles Γ p row′ s
+  settles-no old row row′ marks s b w h =
+      record {
+        answer = sym (stray-first Γ p (shape .sound) s b (λ v q. gives-grounded Γ p v _ (w .still .stands v (omega arith) (w .done v q))) h);
+        row-is = λ e. absurd (omega arith);
+      }
 
   module _ (old : List ℕ) (row : List ℤ) (marks : List ℕ) (s : ℕ) (q : Γ .registers ≤ s) (w : Settling Γ p old row marks s) where
     gives : (v : ℕ) → v < Γ .registers → Gives Γ p v (at row v)
@@ -63,10 +68,11 @@ module _ (Γ : Arrows) (p : List ℕ) (shape : Shape Γ) where
         let d = deep-short Γ p (shape .sound) (g .depth) v b (g .deep) in
         sym (g .time) ∙ sym (worth-deep Γ p (g .depth) (Γ .registers) v (g .deep) (omega arith)) ∙ sym (settled-at Γ p v b)
 
-    pub settles-yes : Settles Γ p row true
+    pub settles-yes : Settles Γ p row s
     settles-yes =
+        let whole : s ≡ Γ .registers = let f = w .so-far in omega arith in
         record {
-          answer = sym (grounded-all Γ p (shape .sound) (λ v b. gives-grounded Γ p v _ (gives v b)));
+          answer = whole ∙ sym (stray-none Γ p (Γ .registers) (grounded-all Γ p (shape .sound) (λ v b. gives-grounded Γ p v _ (gives v b))));
           row-is =
               λ e.
               ext-getD (pos 0) row (settled Γ p) (w .still .row-long ∙ sym (settled-length Γ p))

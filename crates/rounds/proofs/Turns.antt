@@ -1,28 +1,29 @@
 -- What a turn of the relaxation rests on: a ready row lies in its range, what a round's preds give lies in a row's range, and each way that
 -- a turn ends is what its contract says.
-use mathlib.Core.Path.{_≡_, refl, sym, ap, _∙_}
+use mathlib.Core.Path.{_≡_, sym, ap, _∙_}
 use mathlib.Core.Bool.{Bool, true, false}
 use mathlib.Core.List.{List}
-use Prim.Native.Nat.{ℕ, zero, suc, _+_, _-_, _*_, _≤_, _<_}
+use Prim.Native.Nat.{ℕ, zero, suc, _-_, _*_, _≤_, _<_}
 use native.Mathlib.Omega.{arith}
 use native.Mathlib.Nat.{mul-le-mul-right}
-use lib.ListN.{length, getD}
-use lib.IntN.{ℤ, pos, negsuc, _+ℤ_}
+use lib.ListN.{length}
+use lib.IntN.{ℤ, pos, negsuc}
 use lib.Signed.{_≤ℤ_}
 use Rattle.whole.proofs.Lin.{lin}
-use Rattle.loops.specs.Arrows.{Arrows, Least, amount, tail}
-use Rattle.loops.specs.Model.{Turn, at, pred, offered, round, rowAfter, predsAfter, allRooted, settled, worth, circleArrows, firstRow, firstPreds}
-use Rattle.loops.specs.Forest.{Tight, Deep, gap}
+use Rattle.loops.specs.Arrows.{Arrows, amount, tail}
+use Rattle.loops.specs.Model.{at, pred, round, rowAfter, predsAfter, rooted, allRooted, settled, worth, circleArrows, firstRow, firstPreds}
+use Rattle.loops.specs.Forest.{Deep, gap}
 use Rattle.loops.proofs.Grounded.{deep-short}
 use Rattle.loops.proofs.Worth.{worth-next, worth-root, worth-most, tight-settled, settled-most}
 use Rattle.loops.proofs.Kept.{round-grows, round-exact, round-fed, round-still, round-quiet, rested-least, tight-books}
 use Rattle.loops.proofs.Settle.{settled-tight, rows-from}
 use Rattle.loops.proofs.Ends.{gap-falls}
 use Rattle.loops.proofs.Relax.{circled-ends}
-use Rattle.loops.proofs.First.{first-tight, first-row-length, first-row-host, first-row-low}
-use Rattle.rounds.specs.Shape.{Shape, Row, InRow, Modest, turn}
-use Rattle.rounds.specs.Settling.{Gives, Fair, Settles}
-use Rattle.rounds.specs.Relaxation.{Bounded, Ready, Rests, Shows, Turned, Relaxed}
+use Rattle.loops.proofs.Rooted.{stray-above, stray-below}
+use Rattle.loops.proofs.First.{first-tight, first-row-host, first-row-low}
+use Rattle.rounds.specs.Shape.{Shape, Row, turn}
+use Rattle.rounds.specs.Settling.{Fair, Settles}
+use Rattle.rounds.specs.Relaxation.{Bounded, Ready, Rests, Shows}
 
 module _ (Γ : Arrows) (shape : Shape Γ) where
   modest-to : (e : ℕ) → e < Γ .count → amount Γ e ≤ℤ pos 4194304
@@ -99,11 +100,9 @@ module _ (Γ : Arrows) (shape : Shape Γ) where
       gap-falls Γ 16777216 (shape .sound) w a p (r .tight) q all,
     )
 
-    -- the preds hold a circle
-    pub turned-circled : allRooted Γ (predsAfter Γ a p) ≡ false → (allRooted Γ (predsAfter Γ a p) ≡ false) × Shows Γ (circleArrows Γ (predsAfter Γ a p))
-    turned-circled q =
-        let e = circled-ends Γ a p (shape .sound) (r .tight) q in
-        (q, record { contradicts = e .0; listed = e .1 })
+    -- a register is not grounded
+    pub turned-circled : (u : ℕ) → u < Γ .registers → rooted Γ (predsAfter Γ a p) (Γ .registers) u ≡ false → Shows Γ (circleArrows Γ (predsAfter Γ a p) u)
+    turned-circled u b q = let e = circled-ends Γ a p (shape .sound) (r .tight) u b q in record { contradicts = e .0; listed = e .1 }
 
     -- the same of the row, the preds and the flag that the code holds after its round
     module _ (b : List ℤ) (q : List ℕ) (raised : Bool) (is : turn b q raised ≡ round Γ a p) where
@@ -128,13 +127,17 @@ module _ (Γ : Arrows) (shape : Shape Γ) where
       pub after-rested : raised ≡ false → Rests Γ b
       after-rested h = rw row-is (turned-rested (sym flag-is ∙ h))
 
-      pub after-settled : (row : List ℤ) (t : Bool) → Bounded Γ → raised ≡ true → Settles Γ q row t → t ≡ true
+      pub after-settled : (row : List ℤ) (t : ℕ) → Bounded Γ → raised ≡ true → Settles Γ q row t → Γ .registers ≤ t
           → Ready Γ row q × (gap Γ 16777216 row < gap Γ 16777216 a)
       after-settled row t w h s e =
-          rw (s .row-is e, preds-is) (turned-settled w (sym flag-is ∙ h) (ap (allRooted Γ) (sym preds-is) ∙ sym (s .answer) ∙ e))
+          let (whole, all) = stray-above Γ q (t) (s .answer) e in
+          rw (s .row-is whole, preds-is) (turned-settled w (sym flag-is ∙ h) (ap (allRooted Γ) (sym preds-is) ∙ all))
 
-      pub after-circled : (row : List ℤ) (t : Bool) → Settles Γ q row t → t ≡ false → (allRooted Γ q ≡ false) × Shows Γ (circleArrows Γ q)
-      after-circled row t s e = rw preds-is (turned-circled (ap (allRooted Γ) (sym preds-is) ∙ sym (s .answer) ∙ e))
+      pub after-circled : (row : List ℤ) (t : ℕ) → Settles Γ q row t → t < Γ .registers
+          → (t < Γ .registers) × (rooted Γ q (Γ .registers) t ≡ false) × Shows Γ (circleArrows Γ q t)
+      after-circled row t s b =
+          let strays = stray-below Γ q t (s .answer) b in
+          (b, strays, rw preds-is (turned-circled t b (ap (λ x. rooted Γ x (Γ .registers) t) (sym preds-is) ∙ strays)))
 
   -- the first row
   pub first-ready : Bounded Γ → Ready Γ (firstRow Γ) (firstPreds Γ 65535)

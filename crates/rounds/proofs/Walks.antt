@@ -1,21 +1,21 @@
 -- A walk back along the preds: k steps from s it stands at v, and whatever the preds give v, they give s that and the sum on the way.
-use mathlib.Core.Path.{_≡_, refl, sym, ap, _∙_}
+use mathlib.Core.Path.{_≡_, refl, ap}
 use mathlib.Core.List.{List}
-use Prim.Native.Nat.{ℕ, zero, suc, _+_, _*_, _≤_, _<_}
+use Prim.Native.Nat.{ℕ, suc, _+_, _*_, _≤_, _<_}
 use native.Mathlib.Omega.{arith}
 use native.Mathlib.Numerals.{add-one}
-use lib.IntN.{ℤ, pos, negℤ, _+ℤ_, _-ℤ_}
+use lib.IntN.{ℤ, pos, negℤ, _+ℤ_}
 use lib.Signed.{_≤ℤ_}
 use mir.Syntax.{w32, w64}
 use mir.Val.{SFits}
-use Rattle.whole.proofs.Lin.{lin, plus, minus, negs}
-use Rattle.loops.specs.Arrows.{Arrows, Sound, tail, amount}
+use Rattle.whole.proofs.Lin.{lin, plus, negs}
+use Rattle.loops.specs.Arrows.{Arrows, tail, amount}
 use Rattle.loops.specs.Model.{pred, back}
 use Rattle.loops.specs.Forest.{Grounded, Arrowed}
 use Rattle.loops.proofs.Below.{below-next}
 use Rattle.loops.proofs.Rooted.{long-not-grounded}
-use Rattle.rounds.specs.Shape.{Shape, Modest, InRow}
-use Rattle.rounds.specs.Settling.{Gives, Fair}
+use Rattle.rounds.specs.Shape.{Shape, InRow}
+use Rattle.rounds.specs.Settling.{Gives}
 use Rattle.rounds.proofs.Gives.{gives-is, gives-next}
 
 pub record Walking (Γ : Arrows) (p : List ℕ) (s v : ℕ) (sum : ℤ) (k : ℕ) : Type 0 where

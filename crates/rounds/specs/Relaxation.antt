@@ -8,9 +8,8 @@ use lib.IntN.{ℤ, negsuc}
 use lib.Signed.{_≤ℤ_}
 use Rattle.paper.specs.Chains.{Listed}
 use Rattle.loops.specs.Arrows.{Arrows, Least, Contradicts, Windowed, tail, head}
-use Rattle.loops.specs.Model.{at, allRooted, circleArrows}
+use Rattle.loops.specs.Model.{at, rooted, circleArrows}
 use Rattle.loops.specs.Forest.{Tight, gap}
-use Rattle.rounds.specs.Shape.{Shape}
 use Rattle.rounds.specs.declared.relax.Step.{Step}
 use Rattle.rounds.specs.declared.relax.Step.the-variants.{Rested, Settled, Circled}
 
@@ -33,11 +32,12 @@ pub record Rests (Γ : Arrows) (row : List ℤ) : Type 0 where
   pub long : length row ≡ Γ .registers
   pub least : Least Γ (at row)
 
--- a round and its settling: nothing was raised; or the row is ready for the next round, nearer to its bound; or the preds hold a circle
+-- a round and its settling: nothing was raised; or the row is ready for the next round, nearer to its bound; or the walk back from
+-- a register that is not grounded ends on a circle
 abbrev pub Turned : Arrows → List ℤ → List ℤ → List ℕ → Step → Type 0
 Turned Γ a row p Rested = Rests Γ row
 Turned Γ a row p Settled = Ready Γ row p × (gap Γ 16777216 row < gap Γ 16777216 a)
-Turned Γ a row p Circled = (allRooted Γ p ≡ false) × Shows Γ (circleArrows Γ p)
+Turned Γ a row p (Circled s) = (s < Γ .registers) × (rooted Γ p (Γ .registers) s ≡ false) × Shows Γ (circleArrows Γ p s)
 
 -- The whole: no entries, the row is the least schedule of the arrows, and the loop's list is as it was; or so many entries of a loop of the
 -- arrows that contradicts itself.

@@ -6,7 +6,7 @@ use Prim.Native.Nat.{ℕ, _≤_, _<_}
 use lib.ListN.{length, getD}
 use lib.IntN.{ℤ}
 use Rattle.loops.specs.Arrows.{Arrows}
-use Rattle.loops.specs.Model.{at, worth, allRooted, settled}
+use Rattle.loops.specs.Model.{at, worth, stray, settled}
 use Rattle.loops.specs.Forest.{Deep, Grounded}
 use Rattle.rounds.specs.Shape.{InRow}
 
@@ -43,7 +43,7 @@ module _ (Γ : Arrows) (p : List ℕ) where
   SettledOne s before row old marks true = Put s before row old marks
   SettledOne s before row old marks false = Grounded Γ p s → ⊥
 
-  -- what settling leaves: the model's settled row, or a forest that is none
-  pub record Settles (row : List ℤ) (r : Bool) : Type 0 where
-    pub answer : r ≡ allRooted Γ p
-    pub row-is : r ≡ true → row ≡ settled Γ p
+  -- what settling leaves: the model's settled row; or the first register that is not grounded
+  pub record Settles (row : List ℤ) (r : ℕ) : Type 0 where
+    pub answer : r ≡ stray Γ p
+    pub row-is : r ≡ Γ .registers → row ≡ settled Γ p

@@ -7,12 +7,7 @@ use lib.IntN.{ℤ, pos, negsuc}
 use lib.Signed.{_≤ℤ_}
 use mathlib.Core.Bool.{Bool}
 use Rattle.loops.specs.Model.{Turn, at}
-use Rattle.loops.specs.Arrows.{Arrows, Sound, Windowed, amount}
-
--- the first `count` places of three lists as arrows
-abbrev pub arrows : ℕ → ℕ → List ℕ → List ℕ → List ℤ → Arrows
-arrows registers count tails heads amounts =
-    record { registers = registers; count = count; tails = tails; heads = heads; amounts = amounts }
+use Rattle.loops.specs.Arrows.{Arrows, Sound, amount}
 
 -- every amount lies between -2 ^ 24 and 2 ^ 22
 pub record Modest (z : ℤ) : Type 0 where

@@ -1,24 +1,23 @@
 // One relaxation: rounds over two rows, the next the other way, until nothing is raised or a circle is found among the preds.
 ghost use mathlib.Core.Path.{_≡_};
-ghost use mathlib.Core.Bool.{false};
-ghost use Prim.Native.Nat.{ℕ, _≤_, _<_};
-ghost use lib.ListN.{length, take};
-ghost use Rattle.loops.specs.Model.{allRooted, circleArrows, firstRow, firstPreds};
-ghost use Rattle.rounds.specs.Shape.{arrows, Shape};
+ghost use Prim.Native.Nat.{_≤_};
+ghost use lib.ListN.{length};
+ghost use Rattle.loops.specs.Arrows.{arrows};
+ghost use Rattle.rounds.specs.Shape.{Shape};
 ghost use Rattle.rounds.specs.Relaxation.{Bounded, Ready, Turned, Relaxed};
 use crate::round::turn_round;
-use crate::search::circle;
-use crate::search::list;
+use crate::search::show;
 use crate::settle::settle;
 
 // What a round and its settling come to.
 pub enum Step {
     Rested,
     Settled,
-    Circled,
+    // a register whose walk back ends on a circle
+    Circled(usize),
 }
 
-// The first row and its preds: the host at 0 without a pred, every other register at its low, by its low arrow.
+// The first row and its preds: the host at 0 without a pred (65,535 names no arrow), every other register at its low, by its low arrow.
 fn first(
     tail: &[u16],
     head: &[u16],
@@ -62,30 +61,11 @@ fn turn(
     if !turn_round(tail, head, amount, n, m, a, b, p) {
         return Step::Rested;
     }
-    if settle(tail, head, amount, n, m, p, b) {
+    let s = settle(tail, head, amount, n, m, p, b);
+    if n <= s {
         return Step::Settled;
     }
-    Step::Circled
-}
-
-// Lists the circle among the preds, and answers how many entries it has.
-fn show(
-    tail: &[u16],
-    head: &[u16],
-    amount: &[i32],
-    n: usize,
-    m: usize,
-    p: &[u16],
-    out: &mut [u16],
-) -> usize
-    requires { ⌜ Shape (arrows n m (now tail) (now head) (now amount)) ⌝ }
-    requires { ⌜ (length (now p) ≡ n) × (n ≤ length (now out)) × (allRooted (arrows n m (now tail) (now head) (now amount)) (now p) ≡ false) ⌝ }
-    ensures { λ r. ⌜ (0 < r) × (r ≤ n) × (take r (now (out .exit)) ≡ circleArrows (arrows n m (now (tail .entry)) (now (head .entry)) (now (amount .entry))) (now (p .entry))) ⌝ }
-{
-    let ring = circle(tail, head, amount, n, m, p);
-    let steps = ring.steps;
-    list(tail, head, amount, n, m, p, ring.start, steps, out);
-    steps
+    Step::Circled(s)
 }
 
 // Relaxes the arrows. The row that holds the last round is handed on, not copied.
@@ -114,8 +94,8 @@ pub fn relax<'a>(
                 *entries = 0;
                 return b;
             }
-            Step::Circled => {
-                *entries = show(tail, head, amount, n, m, p, out);
+            Step::Circled(s) => {
+                *entries = show(tail, head, amount, n, m, p, s, out);
                 return b;
             }
             Step::Settled => {}
@@ -126,8 +106,8 @@ pub fn relax<'a>(
                 *entries = 0;
                 return a;
             }
-            Step::Circled => {
-                *entries = show(tail, head, amount, n, m, p, out);
+            Step::Circled(s) => {
+                *entries = show(tail, head, amount, n, m, p, s, out);
                 return a;
             }
             Step::Settled => {}

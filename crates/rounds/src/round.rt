@@ -1,13 +1,14 @@
 // One round: it reads one row and writes the other; where a head is raised, the arrow is noted as its pred.
 ghost use mathlib.Core.Path.{_≡_};
-ghost use Prim.Native.Nat.{ℕ, _≤_, _<_};
+ghost use Prim.Native.Nat.{_<_};
 ghost use lib.ListN.{length};
 ghost use lib.IntN.{_+ℤ_};
 ghost use mir.Syntax.{w32};
 ghost use mir.Val.{SFits};
 ghost use mathlib.Core.Bool.{false};
-ghost use Rattle.loops.specs.Model.{Turn, at, step, pass, round};
-ghost use Rattle.rounds.specs.Shape.{arrows, Shape, Row, turn};
+ghost use Rattle.loops.specs.Arrows.{arrows};
+ghost use Rattle.loops.specs.Model.{at, step, pass, round};
+ghost use Rattle.rounds.specs.Shape.{Shape, Row, turn};
 use paper::Delay;
 use paper::Latency;
 

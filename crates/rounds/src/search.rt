@@ -1,14 +1,100 @@
-// The search for a circle among the preds, and the arrows of the circle that it found. Nothing here writes a pred: the search follows them
-// back from one register after another.
+// The search for a circle among the preds, from a register that is not grounded, and the arrows of the circle that it found. Nothing here
+// writes a pred. Each walk takes at most as many steps as there are registers.
 ghost use mathlib.Core.Path.{_≡_};
+ghost use mathlib.Core.Bool.{false};
 ghost use mathlib.Core.List.{_++_};
-ghost use Prim.Native.Nat.{ℕ, _≤_, _<_};
-ghost use lib.ListN.{length, drop};
-ghost use Rattle.loops.specs.Model.{pred, back, trail, around, circle};
-ghost use Rattle.rounds.specs.Shape.{arrows, Shape};
+ghost use Prim.Native.Nat.{_≤_, _<_};
+ghost use lib.ListN.{length, getD, take, drop};
+ghost use Rattle.loops.specs.Arrows.{arrows};
+ghost use Rattle.loops.specs.Model.{back, trail, rooted, lowest, around, circleFrom, circleArrows};
+ghost use Rattle.loops.specs.Forest.{Arrowed};
+ghost use Rattle.rounds.specs.Shape.{Shape};
 
-// How many steps back from s until s comes again by way of registers above s; 0 where it does not come. A register below s ends the walk,
-// since a circle through it is found from there. So does a register without a pred. n steps are enough for any circle.
+// The register one step back from v, whose pred is an arrow.
+fn step(tail: &[u16], p: &[u16], v: usize) -> usize
+    requires { ⌜ (v < length (now p)) × (getD (now p) v 0 < length (now tail)) ⌝ }
+    ensures { λ r. ⌜ r ≡ getD (now (tail .entry)) (getD (now (p .entry)) v 0) 0 ⌝ }
+{
+    tail[p[v] as usize] as usize
+}
+
+// Whether the walk back from s comes to a register without a pred. n steps are enough: after them a register has come twice.
+pub fn grounded(
+    tail: &[u16],
+    head: &[u16],
+    amount: &[i32],
+    n: usize,
+    m: usize,
+    p: &[u16],
+    s: usize,
+) -> bool
+    requires { ⌜ Shape (arrows n m (now tail) (now head) (now amount)) ⌝ }
+    requires { ⌜ (length (now p) ≡ n) × (s < n) ⌝ }
+    ensures { λ r. ⌜ r ≡ rooted (arrows n m (now (tail .entry)) (now (head .entry)) (now (amount .entry))) (now (p .entry)) n s ⌝ }
+{
+    let mut k = 0;
+    let mut v = s;
+    while k < n {
+        if m <= p[v] as usize {
+            return true;
+        }
+        v = step(tail, p, v);
+        k += 1;
+    }
+    m <= p[v] as usize
+}
+
+// The register as many steps back from s as there are registers. Where the preds go on so far, it is on a circle.
+fn onto(
+    tail: &[u16],
+    head: &[u16],
+    amount: &[i32],
+    n: usize,
+    m: usize,
+    p: &[u16],
+    s: usize,
+) -> usize
+    requires { ⌜ Shape (arrows n m (now tail) (now head) (now amount)) ⌝ }
+    requires { ⌜ (length (now p) ≡ n) × (s < n) × (Arrowed (arrows n m (now tail) (now head) (now amount)) (now p) n s) ⌝ }
+    ensures { λ r. ⌜ r ≡ back (arrows n m (now (tail .entry)) (now (head .entry)) (now (amount .entry))) (now (p .entry)) n s ⌝ }
+{
+    let mut k = 0;
+    let mut v = s;
+    while k < n {
+        v = step(tail, p, v);
+        k += 1;
+    }
+    v
+}
+
+// The lowest register on as many steps back from s.
+fn lowest(
+    tail: &[u16],
+    head: &[u16],
+    amount: &[i32],
+    n: usize,
+    m: usize,
+    p: &[u16],
+    s: usize,
+) -> usize
+    requires { ⌜ Shape (arrows n m (now tail) (now head) (now amount)) ⌝ }
+    requires { ⌜ (length (now p) ≡ n) × (s < n) × (Arrowed (arrows n m (now tail) (now head) (now amount)) (now p) n s) ⌝ }
+    ensures { λ r. ⌜ r ≡ lowest (arrows n m (now (tail .entry)) (now (head .entry)) (now (amount .entry))) (now (p .entry)) n s ⌝ }
+{
+    let mut k = 0;
+    let mut v = s;
+    let mut low = s;
+    while k < n {
+        v = step(tail, p, v);
+        k += 1;
+        if v < low {
+            low = v;
+        }
+    }
+    low
+}
+
+// How many steps back from s until s comes again; 0 where it does not come. n steps are enough for any circle.
 fn around(
     tail: &[u16],
     head: &[u16],
@@ -34,38 +120,41 @@ fn around(
         if v == s {
             return k;
         }
-        if v < s {
-            return 0;
-        }
     }
     0
 }
 
-// A circle by its lowest register and the steps that it takes; no steps: there is none.
+// A circle by its lowest register and the steps that it takes.
 pub struct Ring {
     pub start: usize,
     pub steps: usize,
 }
 
-// The first circle that is found, going up from the host: each register is tried as the lowest of a circle. No steps where there is none.
-pub fn circle(tail: &[u16], head: &[u16], amount: &[i32], n: usize, m: usize, p: &[u16]) -> Ring
+// The circle on which the walk back from s ends, where s is not grounded: onto it, to its lowest register, and once around.
+fn circle(
+    tail: &[u16],
+    head: &[u16],
+    amount: &[i32],
+    n: usize,
+    m: usize,
+    p: &[u16],
+    s: usize,
+) -> Ring
     requires { ⌜ Shape (arrows n m (now tail) (now head) (now amount)) ⌝ }
-    requires { ⌜ length (now p) ≡ n ⌝ }
-    ensures { λ r. ⌜ (r .start ≡ circle (arrows n m (now (tail .entry)) (now (head .entry)) (now (amount .entry))) (now (p .entry)) .start) × (r .steps ≡ circle (arrows n m (now (tail .entry)) (now (head .entry)) (now (amount .entry))) (now (p .entry)) .steps) ⌝ }
+    requires { ⌜ (length (now p) ≡ n) × (s < n) × (rooted (arrows n m (now tail) (now head) (now amount)) (now p) n s ≡ false) ⌝ }
+    ensures { λ r. ⌜ (r .start ≡ circleFrom (arrows n m (now (tail .entry)) (now (head .entry)) (now (amount .entry))) (now (p .entry)) s .start) × (r .steps ≡ circleFrom (arrows n m (now (tail .entry)) (now (head .entry)) (now (amount .entry))) (now (p .entry)) s .steps) ⌝ }
 {
-    let mut s = 0;
-    while s < n {
-        let k = around(tail, head, amount, n, m, p, s);
-        if k != 0 {
-            return Ring { start: s, steps: k };
-        }
-        s += 1;
+    let v = onto(tail, head, amount, n, m, p, s);
+    let low = lowest(tail, head, amount, n, m, p, v);
+    let steps = around(tail, head, amount, n, m, p, low);
+    Ring {
+        start: low,
+        steps: steps,
     }
-    Ring { start: s, steps: 0 }
 }
 
 // The arrows of the steps back from `start`, in the order of the arrows: the walk meets the last arrow first, so it writes from the end.
-pub fn list(
+fn list(
     tail: &[u16],
     head: &[u16],
     amount: &[i32],
@@ -78,7 +167,7 @@ pub fn list(
 )
     requires { ⌜ Shape (arrows n m (now tail) (now head) (now amount)) ⌝ }
     requires { ⌜ (length (now p) ≡ n) × (start < n) × (steps ≤ length (now out)) ⌝ }
-    requires { ⌜ ((j : ℕ) → j < steps → pred (now p) (back (arrows n m (now tail) (now head) (now amount)) (now p) j start) < m) ⌝ }
+    requires { ⌜ Arrowed (arrows n m (now tail) (now head) (now amount)) (now p) steps start ⌝ }
     ensures { λ _. ⌜ now (out .exit) ≡ trail (arrows n m (now (tail .entry)) (now (head .entry)) (now (amount .entry))) (now (p .entry)) steps start ++ drop steps (now (out .entry)) ⌝ }
 {
     let mut v = start;
@@ -89,4 +178,25 @@ pub fn list(
         out[k] = e;
         v = tail[e as usize] as usize;
     }
+}
+
+// Lists the circle on which the walk back from s ends, and answers how many entries it has.
+pub fn show(
+    tail: &[u16],
+    head: &[u16],
+    amount: &[i32],
+    n: usize,
+    m: usize,
+    p: &[u16],
+    s: usize,
+    out: &mut [u16],
+) -> usize
+    requires { ⌜ Shape (arrows n m (now tail) (now head) (now amount)) ⌝ }
+    requires { ⌜ (length (now p) ≡ n) × (n ≤ length (now out)) × (s < n) × (rooted (arrows n m (now tail) (now head) (now amount)) (now p) n s ≡ false) ⌝ }
+    ensures { λ r. ⌜ (0 < r) × (r ≤ n) × (take r (now (out .exit)) ≡ circleArrows (arrows n m (now (tail .entry)) (now (head .entry)) (now (amount .entry))) (now (p .entry)) s) ⌝ }
+{
+    let ring = circle(tail, head, amount, n, m, p, s);
+    let steps = ring.steps;
+    list(tail, head, amount, n, m, p, ring.start, steps, out);
+    steps
 }

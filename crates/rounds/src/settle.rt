@@ -6,8 +6,8 @@ ghost use lib.ListN.{length, getD};
 ghost use lib.IntN.{_+ℤ_, _-ℤ_};
 ghost use mir.Syntax.{w32, w64};
 ghost use mir.Val.{SFits};
-ghost use Rattle.loops.specs.Model.{allRooted, settled};
-ghost use Rattle.rounds.specs.Shape.{arrows, Shape};
+ghost use Rattle.loops.specs.Arrows.{arrows};
+ghost use Rattle.rounds.specs.Shape.{Shape};
 ghost use Rattle.rounds.specs.Settling.{Gives, Fair, Marked, Walked, Put, SettledOne, Settles};
 use paper::Delay;
 use paper::Latency;
@@ -152,7 +152,7 @@ fn settle_one(
     false
 }
 
-// All registers, one after another. Answers whether every register is grounded.
+// All registers, one after another. Answers the first that is not grounded, and n where all are.
 fn settle_all(
     tail: &[u16],
     head: &[u16],
@@ -162,7 +162,7 @@ fn settle_all(
     p: &[u16],
     row: &mut [i32],
     marks: &mut [u8],
-) -> bool
+) -> usize
     requires { ⌜ Shape (arrows n m (now tail) (now head) (now amount)) ⌝ }
     requires { ⌜ (length (now p) ≡ n) × (length (now row) ≡ n) × (n ≤ length (now marks)) × ((v : ℕ) → getD (now marks) v 0 ≡ 0) ⌝ }
     requires { ⌜ Fair (arrows n m (now tail) (now head) (now amount)) (now p) ⌝ }
@@ -171,14 +171,14 @@ fn settle_all(
     let mut s = 0;
     while s < n {
         if !settle_one(tail, head, amount, n, m, p, row, marks, s) {
-            return false;
+            return s;
         }
         s += 1;
     }
-    true
+    s
 }
 
-// Settles the row that a round has just written. Where some register is not grounded it answers no, and the row is given up.
+// Settles the row that a round has just written. Where some register is not grounded it answers the first such, and the row is given up.
 pub fn settle(
     tail: &[u16],
     head: &[u16],
@@ -187,7 +187,7 @@ pub fn settle(
     m: usize,
     p: &[u16],
     row: &mut [i32],
-) -> bool
+) -> usize
     requires { ⌜ Shape (arrows n m (now tail) (now head) (now amount)) ⌝ }
     requires { ⌜ (length (now p) ≡ n) × (length (now row) ≡ n) ⌝ }
     requires { ⌜ Fair (arrows n m (now tail) (now head) (now amount)) (now p) ⌝ }

@@ -17,7 +17,7 @@ use Rattle.paper.specs.Network.{Network}
 use Rattle.paper.specs.Rules.{Rule, amount}
 use Rattle.paper.specs.Schedule.{Answer, Refutes, Shown, setups}
 use Rattle.paper.specs.File.{registers, networkOf}
-use Rattle.paper.specs.Refusals.{Accepted, NoPeriod, NoneToCeiling}
+use Rattle.paper.specs.Refusals.{Accepted, Scheduled, NoPeriod, NoneToCeiling}
 use Rattle.paper.specs.Outcome.{Result}
 use Rattle.paper.proofs.Legal.{accepted-legal}
 use Rattle.paper.proofs.RuleLaws.{amount-falls}
@@ -62,11 +62,16 @@ module _ {f before after : List ℕ} {o : Outcome} (a : Accepted f) (enough : 14
       given e = let s : Result f before outcome.Answered after = rw e at r in (s .output .period, s .output .latency, returned-answer s)
 
   -- An accepted file with room enough goes unanswered exactly when no such period exists.
-  pub unanswered-iff : (o ≡ outcome.Answered → ⊥) ↔ ((P : ℕ) (x : ℕ → ℤ) → Answer (networkOf f) P x → ⊥)
+  pub unanswered-iff : (o ≡ outcome.Answered → ⊥) ↔ ((P : ℕ) → networkOf f .floor ≤ P → P ≤ networkOf f .ceiling → Scheduled (networkOf f) P → ⊥)
   unanswered-iff = (
-    (λ un P x h. un (answer-returned P x h)),
-    (λ none e. let w = answered-iff .0 e in none (w .0) (w .1) (w .2)),
+    (λ un P low high s. go un P low high s (roomy-parted r a enough)),
+    (λ none e. let w = answered-iff .0 e in none (w .0) (w .2 .from-floor) (w .2 .to-ceiling) (w .1, w .2 .schedule)),
   )
+    where
+      go : (o ≡ outcome.Answered → ⊥) → (P : ℕ) → networkOf f .floor ≤ P → P ≤ networkOf f .ceiling → Scheduled (networkOf f) P → Parted r → ⊥
+      go un P low high s (inl g) = g .1 P (omega (arith, accepted-legal f a .floor-from)) s
+      go un P low high s (inr (inl g)) = g .1 .none P (omega (arith, accepted-legal f a .floor-from)) high s
+      go un P low high s (inr (inr e)) = un e
 
   -- 8 "given exactly when": no schedule at any whole period, however large
   pub refused-8-iff : (o ≡ outcome.NoPeriod) ↔ NoPeriod (networkOf f)

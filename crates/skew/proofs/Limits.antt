@@ -31,18 +31,17 @@ asked-read p k n t h = rw (toZ-ofZ p, toZ-ofZ k, toZ-ofZ n, toZ-ofZ t, toZ-ofZ h
 
 -- ---- tested
 
-pub numbers-joined : {period tail head : ℤ} {p t h d r : Bool}
+pub numbers-joined : {period tail head : ℤ} {p t h r : Bool}
     → SFits w32 period
     → SFits w32 tail
     → SFits w32 head
     → p ≡ within (pos 1) (pos 10000000) (read period)
     → t ≡ within (negsuc 999999) (pos 1000000) (read tail)
     → h ≡ within (negsuc 999999) (pos 1000000) (read head)
-    → d ≡ p && t
-    → r ≡ d && h
+    → r ≡ p && t && h
     → r ≡ numbersWithin period tail head
 unfolding numbersWithin
-numbers-joined fp ft fh p t h d r = rw (d, p, t, h, toZ-ofZ fp, toZ-ofZ ft, toZ-ofZ fh) at r
+numbers-joined fp ft fh p t h r = rw (p, t, h, toZ-ofZ fp, toZ-ofZ ft, toZ-ofZ fh) at r
 
 pub record Numbers (period tail head : ℤ) : Type 0 where
   pub period-within : within (pos 1) (pos 10000000) period ≡ true

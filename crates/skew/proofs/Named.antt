@@ -1,12 +1,11 @@
--- The rule that a kind and a number name: it is one rule, and code that tests the two finds it.
-use mathlib.Core.Path.{_≡_, refl, sym, ap, ap₂, _∙_}
+-- The rule that a kind and a number name, which is one rule (`rule-named` of the paper): code that tests the two finds it.
+use mathlib.Core.Path.{_≡_, refl, sym, ap, _∙_}
 use mathlib.Core.Bool.{Bool, true, false}
-use mathlib.Core.List.{List, [], _∷_}
+use mathlib.Core.List.{List}
 use Prim.Native.Nat.{ℕ, _<_}
 use native.Mathlib.Omega.{arith}
 use lib.IntN.{ℤ, pos, negsuc, natAbs}
 use lib.Signed.{_≤ℤ_, _<ℤ_}
-use lib.ListN.{getD}
 use lib.Dec.{ltb}
 use borrow.Author.Tests.{ltb-true, ltb-false, le-ltb}
 use mir.Syntax.{w32}
@@ -17,30 +16,8 @@ use Rattle.paper.specs.Network.{Network}
 use Rattle.paper.specs.Rules.{Rule, Setup, Hold, Low, High, kind, number, Exists, slack}
 use Rattle.paper.specs.File.{natural, networkOf}
 use Rattle.paper.specs.Question.{Question, Asked}
+use Rattle.paper.proofs.TableLaws.{rule-named, asked-one}
 use Rattle.skew.specs.Slack.{Tells, TellsRule, Ready, IsSlack}
-
--- ---- one rule
-
--- the rule of a kind from 0 to 3, and a number
-abbrev ruleOf : ℕ → ℕ → Rule
-ruleOf k n = getD (Setup n ∷ Hold n ∷ Low n ∷ []) k (High n)
-
-rule-again : (r : Rule) → ruleOf (kind r) (number r) ≡ r
-rule-again (Setup p) = refl
-rule-again (Hold p) = refl
-rule-again (Low i) = refl
-rule-again (High i) = refl
-
-pub rule-one : (r s : Rule) → kind r ≡ kind s → number r ≡ number s → r ≡ s
-rule-one r s k n = sym (rule-again r) ∙ ap₂ ruleOf k n ∙ rule-again s
-
-pub asked-one : (N : Network) (q : Question) (r s : Rule) → Asked N q r → Asked N q s → r ≡ s
-asked-one N q r s a b =
-    let k = a .of-kind in
-    let l = b .of-kind in
-    let m = a .of-number in
-    let n = b .of-number in
-    rule-one r s (omega lin) (omega lin)
 
 -- ---- a test that tells whether it exists
 
@@ -76,7 +53,7 @@ tells N q r false k n e = λ x. e (rw (same x) at (x .1 .exists))
     same x =
         let l = x .1 .of-kind in
         let m = x .1 .of-number in
-        rule-one (x .0) r (omega lin) (omega lin)
+        rule-named (x .0) r (omega lin) (omega lin)
 
 -- a kind that the code has matched, and a number that it has cast
 pub matched : {z : ℤ} {k : ℕ} → SFits w32 z → ofZ w32 z ≡ k → z ≡ toZ w32 k
@@ -138,7 +115,7 @@ module _ {f : List ℕ} {n : ℕ} {q : Question} (p : Ready f n q) where
       let l = s .1 .of-kind in
       let m = abs-is (q .number-asked) number-from in
       let g = s .1 .of-number in
-      let same : s .0 ≡ r = rule-one (s .0) r (omega lin) (omega lin) in
+      let same : s .0 ≡ r = rule-named (s .0) r (omega lin) (omega lin) in
       record { of-kind = k; of-number = omega lin; exists = rw same at (s .1 .exists) }
 
   -- where it is none of the first three kinds, the fourth

@@ -9,7 +9,6 @@ use native.Mathlib.Omega.{arith}
 use lib.ListN.{length}
 use borrow.Author.Tests.{lt-leb, leb-false}
 use Rattle.paper.specs.declared.Fault.{Fault}
-use Rattle.paper.specs.declared.Fault.the-variants.{Header, Counts, Length, Ranges, Register, Path}
 use Rattle.paper.specs.declared.Verdict.the-variants as verdict
 use Rattle.paper.specs.declared.Outcome.{Outcome}
 use Rattle.paper.specs.declared.Outcome.the-variants as outcome
@@ -17,7 +16,7 @@ use Rattle.paper.specs.File.{registers, networkOf}
 use Rattle.paper.specs.Table.{Row, Given, Clear}
 use Rattle.paper.specs.Refusals.{Accepted, NoPeriod, NoneToCeiling, faults, refusals}
 use Rattle.paper.specs.Outcome.{faultNumber, faultPlace, outcomeNumber, outcomePlace, Judged, Result}
-use Rattle.paper.proofs.TableLaws.{ByRow, NoneBelow, later-rows, given-append, given-before, by-row-given, given-lowest, refusals-rising, outcome-known}
+use Rattle.paper.proofs.TableLaws.{ByRow, NoneBelow, later-rows, given-append, given-before, given-row, by-row-given, given-lowest, refusals-rising, fault-numbers, outcome-known}
 use Rattle.skew.proofs.Unique.{number-unique}
 
 -- ---- any table
@@ -28,12 +27,6 @@ given-rest [] s n p c g = g
 given-rest (r ∷ t) s n p c (inl g) = absurd (c .0 p (g .1))
 given-rest (r ∷ t) s n p c (inr g) = given-rest t s n p (c .1) (g .1)
 
--- a number other than 0 is given by a row
-given-row : (t : List Row) (n p : ℕ) → 0 < n → Given t n p → ByRow t n p
-given-row [] n p h g = let e = g .0 in absurd (omega arith)
-given-row (r ∷ t) n p h (inl g) = inl g
-given-row (r ∷ t) n p h (inr g) = inr (g .0, given-row t n p h (g .1))
-
 -- "The lowest number that applies is returned.": no row with a lower number applies, at any place
 pub lowest-returned : {f before after : List ℕ} {o : Outcome} → Result f before o after → 0 < outcomeNumber o
     → NoneBelow (outcomeNumber o) (refusals f (length before))
@@ -43,16 +36,8 @@ lowest-returned {f} {before} {after} {o} r h =
 
 -- ---- numbers 1 to 6 are the file's, the others are not
 
-fault-numbers : (x : Fault) → (0 < faultNumber x) × (faultNumber x < 7)
-fault-numbers Header = omega arith
-fault-numbers Counts = omega arith
-fault-numbers Length = omega arith
-fault-numbers Ranges = omega arith
-fault-numbers (Register i) = omega arith
-fault-numbers (Path p) = omega arith
-
 module _ (f : List ℕ) where
-  row-numbers : (n p : ℕ) → ByRow (faults f) n p → (0 < n) × (n < 7)
+  pub row-numbers : (n p : ℕ) → ByRow (faults f) n p → (0 < n) × (n < 7)
   row-numbers n p (inl g) = let e = g .0 in omega arith
   row-numbers n p (inr (s, inl g)) = let e = g .0 in omega arith
   row-numbers n p (inr (s, inr (t, inl g))) = let e = g .0 in omega arith

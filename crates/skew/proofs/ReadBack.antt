@@ -13,8 +13,8 @@ use lib.ListN.{length, getD, drop, length-append}
 use lib.Seq.{getD-append-add}
 use mir.Syntax.{w32}
 use mir.Val.{SFits}
-use Rattle.whole.specs.Four.{wordAt, numberAt, bytesOf, four}
-use Rattle.whole.proofs.Four.{number-back}
+use Rattle.whole.specs.Four.{wordAt, numberAt, four}
+use Rattle.whole.proofs.Four.{number-first, four-length}
 use Rattle.paper.specs.Network.{Network}
 use Rattle.paper.specs.Rules.{Rule, Setup, Hold, Low, High, Exists, kind, number, tail, head}
 use Rattle.paper.specs.declared.Outcome.{Outcome}
@@ -24,8 +24,8 @@ use Rattle.paper.specs.File.{networkOf}
 use Rattle.paper.specs.Outcome.{Result}
 use Rattle.paper.specs.Output.{skewRecord, latencyRecord, latencyRecords, entryRecord, entryRecords, LoopAlone}
 use Rattle.paper.proofs.Legal.{Legal, accepted-legal}
-use Rattle.paper.proofs.LoopLaws.{all-at}
-use Rattle.loops.proofs.Bind.{all-map}
+use Rattle.paper.proofs.LoopLaws.{all-at, all-map}
+use Rattle.paper.proofs.OutputLaws.{latencies-length, period-back, latencies-back, entries-back}
 use Rattle.loops.proofs.Pigeonhole.{once-short}
 use Rattle.loops.proofs.Places.{tail-below, legal-joined}
 use Rattle.skew.proofs.Numbers.{accepted-beyond}
@@ -37,24 +37,11 @@ number-past : (a s : List ℕ) (k : ℕ) → numberAt (a ++ s) (length a + k) �
 unfolding numberAt wordAt
 number-past a s k = simp (add-assoc, getD-append-add)
 
--- what was written is read
-number-first : (z : ℤ) (rest : List ℕ) → SFits w32 z → numberAt (four z ++ rest) 0 ≡ z
-unfolding four bytesOf
-number-first z rest h = number-back (four z ++ rest) 0 z (omega arith) h
-
 -- so a number is read where its bytes stand
 number-at : (after a rest : List ℕ) (z : ℤ) (i : ℕ) → after ≡ a ++ (four z ++ rest) → length a ≡ i → SFits w32 z → numberAt after i ≡ z
 number-at after a rest z i e n h = rw (e, ← n) (rw (← (add-zero (length a))) (number-past a (four z ++ rest) 0) ∙ number-first z rest h)
 
 -- ---- the records, and where they stand
-
-four-length : (z : ℤ) → length (four z) ≡ 4
-unfolding four bytesOf
-four-length z = refl
-
-latency-length : (x : ℕ → ℤ) (n : ℕ) → length (latencyRecords x n) ≡ 6 * n
-latency-length x zero = refl
-latency-length x (suc n) = simp length-append (omega (arith, latency-length x n, four-length (x n)))
 
 -- the record of register i, after those of the registers before it
 latency-there : (x : ℕ → ℤ) (n i : ℕ) → i < n → (rest : List ℕ) × (latencyRecords x n ≡ latencyRecords x i ++ (latencyRecord (x i) ++ rest))
@@ -117,7 +104,7 @@ module _ (P n : ℕ) (x : ℕ → ℤ) (l : List Rule) (after past : List ℕ) (
       let here = rw (t .1) at bytes in
       number-at after (skewRecord P n (length l) ++ latencyRecords x i ++ 76 ∷ 84 ∷ []) (t .0 ++ entryRecords l ++ past) (x i) (14 + 6 * i + 2)
       (here ∙ about-latency (skewRecord P n (length l)) (latencyRecords x i) (four (x i)) [] (t .0) (entryRecords l) past)
-      (simp length-append (omega (arith, four-length (pos P), four-length (pos n), four-length (pos (length l)), latency-length x i)))
+      (simp length-append (omega (arith, four-length (pos P), four-length (pos n), four-length (pos (length l)), latencies-length x i)))
       (omega lin)
 
   reads-entry : (j : ℕ) → j < length l
@@ -133,26 +120,23 @@ module _ (P n : ℕ) (x : ℕ → ℤ) (l : List Rule) (after past : List ℕ) (
       let M : List ℕ = four (pos (number (getD l j (Low 0)))) in (
         number-at after (H ++ latencyRecords x n ++ t .first ++ 69 ∷ 68 ∷ []) (M ++ t .rest ++ past) (pos (kind (getD l j (Low 0)))) (14 + 6 * n + 10 * j + 2)
             (here ∙ about-kind H (latencyRecords x n) K M (t .rest) (t .first) past)
-            (simp length-append (omega (arith, four-length (pos P), four-length (pos n), four-length (pos (length l)), latency-length x n, t .size)))
+            (simp length-append (omega (arith, four-length (pos P), four-length (pos n), four-length (pos (length l)), latencies-length x n, t .size)))
             (omega lin),
         number-at after (H ++ latencyRecords x n ++ t .first ++ 69 ∷ 68 ∷ K) (t .rest ++ past) (pos (number (getD l j (Low 0)))) (14 + 6 * n + 10 * j + 6)
             (here ∙ about-number H (latencyRecords x n) K M (t .rest) (t .first) past)
-            (simp length-append (omega (arith, four-length (pos P), four-length (pos n), four-length (pos (length l)), latency-length x n, t .size, four-length (pos (kind (getD l j (Low 0)))))))
+            (simp length-append (omega (arith, four-length (pos P), four-length (pos n), four-length (pos (length l)), latencies-length x n, t .size, four-length (pos (kind (getD l j (Low 0)))))))
             (omega lin),
       )
+
+  first : after ≡ skewRecord P n (length l) ++ (latencyRecords x n ++ entryRecords l ++ past)
+  first = bytes ∙ simp append-assoc
 
   reads : Reads after P n x l
   reads =
       record {
-        period =
-            number-at after (83 ∷ 75 ∷ []) (four (pos n) ++ four (pos (length l)) ++ latencyRecords x n ++ entryRecords l ++ past) (pos P) 2
-            (bytes ∙ simp append-assoc) refl (let b = small .period in omega lin);
-        latencies =
-            number-at after (83 ∷ 75 ∷ four (pos P)) (four (pos (length l)) ++ latencyRecords x n ++ entryRecords l ++ past) (pos n) 6
-            (bytes ∙ simp append-assoc) (omega (arith, four-length (pos P))) (let b = small .count in omega lin);
-        entries =
-            number-at after (83 ∷ 75 ∷ (four (pos P) ++ four (pos n))) (latencyRecords x n ++ entryRecords l ++ past) (pos (length l)) 10
-            (bytes ∙ simp append-assoc) (simp length-append (omega (arith, four-length (pos P), four-length (pos n)))) (let b = small .entries in omega lin);
+        period = rw first (period-back P n (length l) _ (omega (arith, small .period)));
+        latencies = rw first (latencies-back P n (length l) _ (omega (arith, small .count)));
+        entries = rw first (entries-back P n (length l) _ (omega (arith, small .entries)));
         latency = reads-latency;
         entry-kind = λ j h. reads-entry j h .0;
         entry-number = λ j h. reads-entry j h .1;

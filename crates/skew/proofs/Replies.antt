@@ -4,10 +4,9 @@ use mathlib.Core.Logic.{inl, inr}
 use mathlib.Core.List.{List}
 use mathlib.Core.Bool.{Bool, true, false}
 use Prim.Native.Nat.{ℕ}
-use native.Mathlib.Omega.{arith}
 use lib.IntN.{ℤ, pos}
 use lib.Signed.{leZ, _≤ℤ_}
-use Rattle.whole.proofs.Lin.{lin}
+use Rattle.whole.proofs.Lin.{lin, true-not-false}
 use Rattle.paper.specs.declared.Fault.{Fault}
 use Rattle.paper.specs.declared.Verdict.{Verdict}
 use Rattle.paper.specs.declared.Verdict.the-variants as verdict
@@ -46,8 +45,7 @@ module _ {N : Network} {n m : ℕ} {period kind number tail head : ℤ} (t : Boo
 pub no-numbers : {N : Network} {period kind number tail head : ℤ} → numbersWithin period tail head ≡ false → InRange N (asked period kind number tail head) → ⊥
 no-numbers e i =
     let p = in-numbers (record { period-within = i .period-within; tail-within = i .tail-within; head-within = i .head-within }) in
-    let z : _≡_ {A = ℕ} 0 1 = cc in
-    omega arith
+    true-not-false p e
 
 -- ---- the replies
 

@@ -1,26 +1,23 @@
 -- Each way out of the scheduler satisfies the contract: a fault of the file, too little room, and the three ends of the search.
-use mathlib.Core.Path.{_≡_, refl, sym, _∙_}
+use mathlib.Core.Path.{_≡_, refl}
 use mathlib.Core.Logic.{inl, inr}
 use mathlib.Core.List.{List, [], _∷_}
-use mathlib.Core.Bool.{true, false}
 use Prim.Native.Nat.{ℕ, _+_, _*_, _≤_, _<_}
 use native.Mathlib.Omega.{arith}
 use lib.ListN.{length}
-use lib.Dec.{leb}
 use borrow.Author.Tests.{le-leb, lt-leb}
-use Rattle.paper.specs.Network.{Network}
 use Rattle.paper.specs.File.{registers, networkOf}
 use Rattle.paper.specs.Table.{Row, When, Given}
 use Rattle.paper.specs.Refusals.{Accepted, faults, NoPeriod, NoneToCeiling}
 use Rattle.paper.specs.Output.{Answered}
-use Rattle.paper.specs.Outcome.{Judged, Result, outcomeNumber, outcomePlace}
+use Rattle.paper.specs.Outcome.{Judged, Result}
 use Rattle.paper.specs.declared.Fault.{Fault}
 use Rattle.paper.specs.declared.Verdict.{Verdict}
 use Rattle.paper.specs.declared.Verdict.the-variants as verdict
 use Rattle.paper.specs.declared.Outcome.{Outcome}
 use Rattle.paper.specs.declared.Outcome.the-variants as outcome
 use Rattle.paper.proofs.Legal.{accepted-legal}
-use Rattle.paper.proofs.TableLaws.{given-after, later-rows}
+use Rattle.paper.proofs.TableLaws.{given-after, later-rows, passed}
 use Rattle.network.proofs.Verdicts.{judged-faulty}
 use Rattle.period.specs.Solved.{Solved}
 
@@ -30,9 +27,6 @@ last-rows f =
     record { number = 8; applies = When (NoPeriod (networkOf f)) }
     ∷ record { number = 9; applies = When (NoneToCeiling (networkOf f)) }
     ∷ []
-
-true-false : true ≡ false → ⊥
-true-false e = let z : _≡_ {A = ℕ} 0 1 = cc in omega arith
 
 module _ (f before : List ℕ) where
   pub result-fault : (v : Verdict) (x : Fault) → Judged f v → v ≡ verdict.Faulty x → Result f before (outcome.File x) before
@@ -45,7 +39,7 @@ module _ (f before : List ℕ) where
     module _ (room : 14 + 16 * registers f ≤ length before) where
       -- the rows 8 and 9 are looked at once there is room
       roomy : {n p : ℕ} → Given (last-rows f) n p → Given (later-rows f (length before)) n p
-      roomy g = inr ((λ q a. true-false (sym (le-leb _ _ room) ∙ a .0)), g)
+      roomy g = inr (passed (le-leb _ _ room), g)
 
       pub result-solved : (o : Outcome) (after : List ℕ) → Solved (networkOf f) before o after → Result f before o after
       result-solved outcome.Answered after s =

@@ -2,23 +2,22 @@
 -- which there is one number and one place, and on the definition of the answer, by which there is one period and one row of latencies.
 use mathlib.Core.Path.{_≡_, refl, sym, _∙_}
 use mathlib.Core.List.{List, [], _∷_}
-use Prim.Native.Nat.{ℕ, zero, suc, _<_}
+use Prim.Native.Nat.{ℕ, _<_}
 use native.Mathlib.Omega.{arith}
 use lib.IntN.{ℤ}
 use Rattle.whole.proofs.Lin.{lin}
 use Rattle.paper.specs.declared.Outcome.{Outcome}
 use Rattle.paper.specs.declared.Outcome.the-variants as outcome
-use Rattle.paper.specs.declared.Reply.{Reply}
 use Rattle.paper.specs.Network.{Network}
 use Rattle.paper.specs.Rules.{Rule}
 use Rattle.paper.specs.Schedule.{Answer, Shown}
 use Rattle.paper.specs.File.{networkOf}
 use Rattle.paper.specs.Table.{Given}
 use Rattle.paper.specs.Refusals.{refusals}
-use Rattle.paper.specs.Output.{latencyRecords, Answered}
+use Rattle.paper.specs.Output.{Answered}
 use Rattle.paper.specs.Outcome.{Left, Result}
-use Rattle.paper.specs.Question.{Question, Answers}
-use Rattle.paper.proofs.TableLaws.{given-one, refusals-one-place, outcome-one, reply-one}
+use Rattle.paper.proofs.TableLaws.{given-one, refusals-one-place, outcome-one}
+use Rattle.paper.proofs.OutputLaws.{latencies-same}
 use Rattle.skew.specs.Same.{SameAnswer, SameButLoop}
 
 -- ---- one number and one place
@@ -47,14 +46,6 @@ answer-unique {P = P} {Q} {x} {y} a b =
           omega lin,
     )
 
--- the records of the first n registers hold nothing but the latencies of these
-pub records-unique : (x y : ℕ → ℤ) (n : ℕ) → ((i : ℕ) → i < n → x i ≡ y i) → latencyRecords x n ≡ latencyRecords y n
-records-unique x y zero e = refl
-records-unique x y (suc n) e =
-    let rest = records-unique x y n (λ i h. e i (omega arith)) in
-    let last = e n (omega arith) in
-    cc
-
 -- "At the floor there is no loop"
 pub floor-no-loop : (N : Network) (P : ℕ) (l : List Rule) → Shown N P l → P ≡ N .floor → l ≡ []
 floor-no-loop N P [] s e = refl
@@ -77,7 +68,7 @@ same-answer N before after after′ a b =
     but-loop : a .loop ≡ b .loop → after ≡ after′
     but-loop e =
         let p = one .0 in
-        let l = records-unique (a .latency) (b .latency) (N .registers) (one .1) in
+        let l = latencies-same (a .latency) (b .latency) (N .registers) (one .1) in
         cc (a .bytes, b .bytes)
 
     none : a .period ≡ N .floor → a .loop ≡ []
@@ -100,7 +91,3 @@ pub schedule-unique : (f before : List ℕ) {after after′ : List ℕ} {o o′ 
 schedule-unique f before {after} {after′} {o} {o′} r s =
     let one = outcome-one f before after after′ o o′ r s in
     (one, left-unique f before o after after′ (r .output) (rw one (s .output)))
-
--- The rule question has no output, and one reply.
-pub question-unique : {f : List ℕ} {q : Question} {o o′ : Reply} → Answers f q o → Answers f q o′ → o ≡ o′
-question-unique {f} {q} {o} {o′} a b = reply-one f q o o′ a b

@@ -15,9 +15,10 @@ use Rattle.paper.specs.Outcome.{outcomeNumber, outcomePlace, Left, Result}
 use Rattle.paper.specs.Cases.{Expected, answered, refused-8, refused-9, Case, Comes, numberOf, Worked, fileOf, cases}
 use Rattle.paper.proofs.TableLaws.{outcome-one}
 use Rattle.paper.proofs.WorkedCases.{worked-cases}
-use Rattle.loops.proofs.Bind.{all-map}
 use Rattle.skew.specs.Rows.{outcomeOf, loopOf, bytesOf, showing, AsRow, Promised}
-use Rattle.skew.proofs.Unique.{answer-unique, records-unique, floor-no-loop}
+use Rattle.paper.proofs.OutputLaws.{latencies-same}
+use Rattle.paper.proofs.LoopLaws.{all-map}
+use Rattle.skew.proofs.Unique.{answer-unique, floor-no-loop}
 
 row-number : (e : Expected) → outcomeNumber (outcomeOf e) ≡ numberOf e
 row-number (answered P latencies loop) = refl
@@ -53,7 +54,7 @@ module _ (f before after : List ℕ) where
   left-row : (e : Expected) → Comes (networkOf f) e → Left f (outcomeOf e) before after → Left-as e
   left-row (answered P latencies loop) c l =
       let one = answer-unique (c .1) (l .answer) in
-      let same = records-unique (λ i. getD latencies i (pos 0)) (l .latency) (networkOf f .registers) (one .1) in
+      let same = latencies-same (λ i. getD latencies i (pos 0)) (l .latency) (networkOf f .registers) (one .1) in
       let period = one .0 in
       (l .loop, (c .0, c .1, rw period (l .shown)), cc (c .0, l .bytes))
   left-row (refused-8 loop) c l = (l .loop, (c .0, l .no-setups, l .refutes), l .bytes)

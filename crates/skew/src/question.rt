@@ -1,19 +1,19 @@
 // The rule question: whether a rule of a file's network is met by the latencies at its arrow's two ends. Its slack is computed first, as a
 // length of time; yes is a slack from 0 up.
 ghost use mathlib.Core.Path.{_≡_};
-ghost use mathlib.Core.Bool.{_&&_};
 ghost use Prim.Native.Nat.{ℕ};
 ghost use lib.IntN.{ℤ, pos};
 ghost use Rattle.network.specs.Records.{IsRegister, IsPath};
 ghost use Rattle.paper.specs.Network.{Network};
 ghost use Rattle.paper.specs.Rules.{Setup, Hold, Low, High, slack};
-ghost use Rattle.paper.specs.File.{within, networkOf};
+ghost use Rattle.paper.specs.File.{networkOf};
 ghost use Rattle.paper.specs.Refusals.{Accepted};
 ghost use Rattle.paper.specs.Question.{Answers};
 ghost use Rattle.skew.specs.Asked.{asked};
 ghost use Rattle.skew.specs.Slack.{numbersWithin, TellsRule, Small, SmallPath, SmallRegister, Ready, IsSlack};
 use network::Path;
 use network::Register;
+use network::field;
 use network::read;
 use paper::Delay;
 use paper::Latency;
@@ -64,24 +64,11 @@ fn reply(file: &[u8], period: i32, kind: i32, number: i32, tail: i32, head: i32)
 fn in_range(period: i32, tail: i32, head: i32) -> bool
     ensures { λ r. ⌜ r ≡ numbersWithin period tail head ⌝ }
 {
-    let period_in = within(1, 10_000_000, period);
-    let tail_in = within(-1_000_000, 1_000_000, tail);
-    let head_in = within(-1_000_000, 1_000_000, head);
-    both(both(period_in, tail_in), head_in)
-}
-
-// From low to high.
-fn within(low: i32, high: i32, z: i32) -> bool
-    ensures { λ r. ⌜ r ≡ within low high z ⌝ }
-{
-    low <= z && z <= high
-}
-
-// Two tests that have been run, joined.
-fn both(a: bool, b: bool) -> bool
-    ensures { λ r. ⌜ r ≡ a && b ⌝ }
-{
-    a && b
+    field::all3(
+        field::within(1, 10_000_000, period),
+        field::within(-1_000_000, 1_000_000, tail),
+        field::within(-1_000_000, 1_000_000, head),
+    )
 }
 
 // Whether n registers and m paths have a rule of this kind and number. "The host has no low or high rule."

@@ -1,43 +1,27 @@
 -- Every place that is given lies below 2048, and so fits the bits that the packed integer has for it: it is 0, or the number of a record, and
 -- the counts of records have been found in range by then. Numbers fit likewise.
-use mathlib.Core.Path.{_≡_}
 use mathlib.Core.List.{List}
-use mathlib.Core.Bool.{true}
 use mathlib.Core.Logic.{_⊎_, inl, inr}
 use Prim.Native.Nat.{ℕ, _≤_, _<_}
 use native.Mathlib.Omega.{arith}
-use lib.IntN.{ℤ, pos, negsuc}
-use lib.Signed.{_≤ℤ_}
 use lib.ListN.{length}
-use Rattle.whole.proofs.Lin.{lin}
 use Rattle.paper.specs.declared.Fault.{Fault}
-use Rattle.paper.specs.declared.Fault.the-variants.{Header, Counts, Length, Ranges, Register, Path}
 use Rattle.paper.specs.declared.Outcome.{Outcome}
 use Rattle.paper.specs.declared.Outcome.the-variants as outcome
 use Rattle.paper.specs.declared.Reply.{Reply}
 use Rattle.paper.specs.declared.Reply.the-variants as reply
-use Rattle.paper.specs.File.{natural, counted, registers, paths}
+use Rattle.paper.specs.File.{counted}
 use Rattle.paper.specs.Table.{Given, Clear}
 use Rattle.paper.specs.Refusals.{faults}
 use Rattle.paper.specs.Outcome.{faultNumber, outcomeNumber, outcomePlace, Result}
 use Rattle.paper.specs.Question.{Question, Answers, replyNumber, replyPlace}
-use Rattle.paper.proofs.Legal.{passes, header-passed}
-use Rattle.paper.proofs.TableLaws.{ByRow, later-rows, question-rows, given-append}
+use Rattle.paper.proofs.Legal.{passes, counts-to}
+use Rattle.paper.proofs.TableLaws.{ByRow, later-rows, question-rows, given-append, fault-numbers}
 use Rattle.skew_c.specs.Packed.{yesOf}
 
 -- ---- the file's faults
 
-natural-to : (b : ℕ) (z : ℤ) → z ≤ℤ pos b → natural z ≤ b
-natural-to b (pos n) h = omega lin
-natural-to b (negsuc n) h = omega arith
-
 module _ (f : List ℕ) where
-  registers-to : counted f ≡ true → registers f ≤ 256
-  registers-to e = natural-to 256 _ (header-passed f e .0 .to)
-
-  paths-to : counted f ≡ true → paths f ≤ 2048
-  paths-to e = natural-to 2048 _ (header-passed f e .1 .to)
-
   fault-below : (n p : ℕ) → ByRow (faults f) n p → p < 2048
   fault-below n p (inl g) = let e = g .1 .1 in omega arith
   fault-below n p (inr (s, inl g)) = let e = g .1 .1 in omega arith
@@ -45,11 +29,11 @@ module _ (f : List ℕ) where
   fault-below n p (inr (s, inr (t, inr (u, inl g)))) = let e = g .1 .1 in omega arith
   fault-below n p (inr (s, inr (t, inr (u, inr (v, inl g))))) =
       let l = g .1 .0 in
-      let most = registers-to (passes (counted f) t) in
+      let most = counts-to f (passes (counted f) t) .0 in
       omega arith
   fault-below n p (inr (s, inr (t, inr (u, inr (v, inr (w, inl g)))))) =
       let l = g .1 .0 in
-      let most = paths-to (passes (counted f) t) in
+      let most = counts-to f (passes (counted f) t) .1 in
       omega arith
   fault-below n p (inr (s, inr (t, inr (u, inr (v, inr (w, inr g)))))) = absurd (g .1)
 
@@ -88,12 +72,7 @@ reply-below {f} {q} {o} a =
     (given-append (faults f) (question-rows f q) (replyNumber o) (replyPlace o) (a .given))
 
 fault-to : (x : Fault) → faultNumber x ≤ 10
-fault-to Header = omega arith
-fault-to Counts = omega arith
-fault-to Length = omega arith
-fault-to Ranges = omega arith
-fault-to (Register i) = omega arith
-fault-to (Path p) = omega arith
+fault-to x = omega (arith, fault-numbers x .1)
 
 pub outcome-to : (o : Outcome) → outcomeNumber o ≤ 10
 outcome-to outcome.Answered = omega arith

@@ -1,11 +1,12 @@
--- No two different results satisfy the contracts of the two functions, but for the choice of the loop that is shown: what `skew` proves of
--- its own two, carried over to the packed integers.
+-- No two different results satisfy the contracts of the two functions, but for the choice of the loop that is shown: what is proved of
+-- `skew`'s own two, carried over to the packed integers.
 use mathlib.Core.Path.{_≡_, sym, ap, _∙_}
 use mathlib.Core.List.{List}
 use Prim.Native.Nat.{ℕ}
 use Rattle.paper.specs.Question.{Question}
 use Rattle.skew.specs.Same.{SameButLoop}
-use Rattle.skew.proofs.Unique.{schedule-unique, question-unique}
+use Rattle.paper.proofs.TableLaws.{reply-one}
+use Rattle.skew.proofs.Unique.{schedule-unique}
 use Rattle.skew_c.specs.Packed.{packedOutcome, packedReply}
 use Rattle.skew_c.specs.Returned.{Scheduled, Replied}
 
@@ -16,4 +17,4 @@ scheduled-unique f before a b =
     (a .is-packed ∙ ap packedOutcome (one .0) ∙ sym (b .is-packed), one .1)
 
 pub replied-unique : {f : List ℕ} {q : Question} {r s : ℕ} → Replied f q r → Replied f q s → r ≡ s
-replied-unique a b = a .is-packed ∙ ap packedReply (question-unique (a .answers) (b .answers)) ∙ sym (b .is-packed)
+replied-unique a b = a .is-packed ∙ ap packedReply (reply-one _ _ _ _ (a .answers) (b .answers)) ∙ sym (b .is-packed)

@@ -1,9 +1,9 @@
 -- Whatever the scheduler returns and leaves can be listed: what the answer's first record counts is small and stands in the answer.
 use mathlib.Core.Path.{_≡_, sym, ap}
-use mathlib.Core.List.{List, []}
-use Prim.Native.Nat.{ℕ, _+_, _*_, _≤_, _<_}
+use mathlib.Core.List.{List}
+use Prim.Native.Nat.{ℕ, _≤_}
 use native.Mathlib.Omega.{arith}
-use lib.ListN.{length, drop, take, length-append}
+use lib.ListN.{length, drop, length-append}
 use lib.Seq.{length-take-le}
 use Rattle.io.specs.Counts.{Counts}
 use Rattle.paper.specs.declared.Outcome.{Outcome}
@@ -16,7 +16,7 @@ use Rattle.paper.specs.Outcome.{Result}
 use Rattle.paper.proofs.Legal.{accepted-legal, accepted-length}
 use Rattle.skew.proofs.Numbers.{accepted-beyond}
 use Rattle.skew.proofs.ReadBack.{answer-small, alone-small}
-use Rattle.listing.specs.Listable.{FullAnswer, LoopAnswer, Counted, Listable}
+use Rattle.listing.specs.Listable.{Counted}
 use Rattle.listing.specs.Text.{textOf}
 use Rattle.skewlist.specs.Listing.{Listing}
 use Rattle.listing.proofs.Answers.{answered-listable, loop-listable}

@@ -2,11 +2,11 @@
 use mathlib.Core.Path.{_≡_}
 use Prim.Native.Nat.{ℕ}
 use mathlib.Core.List.{List, [], _∷_}
-use lib.IntN.{ℤ, pos, negsuc, negℤ, _+ℤ_, _-ℤ_}
-use lib.Signed.{ltZ, leZ, _≤ℤ_, _<ℤ_}
-use mir.Syntax.{w32, w64}
+use lib.IntN.{ℤ, pos, negsuc, _+ℤ_, _-ℤ_}
+use lib.Signed.{ltZ, _≤ℤ_, _<ℤ_}
+use mir.Syntax.{w32}
 use mir.Val.{SFits, toZ, ofZ}
-use mathlib.Core.Bool.{true, false}
+use mathlib.Core.Bool.{false}
 use Rattle.whole.proofs.Lin.{lin, plus, minus, negs}
 
 -- transitivity with a sum

@@ -3,14 +3,14 @@ use mathlib.Core.Path.{_≡_, refl, sym, ap, _∙_}
 use mathlib.Core.Logic.{_⊎_, inl, inr}
 use mathlib.Core.List.{List, [], _∷_, _++_}
 use mathlib.Core.Bool.{Bool, true, false}
-use Prim.Native.Nat.{ℕ, zero, suc, _+_, _-_, _*_, _/_, _%_, _≤_, _<_}
+use Prim.Native.Nat.{ℕ, suc, _+_, _-_, _*_, _/_, _%_, _≤_, _<_}
 use native.Mathlib.Omega.{arith}
 use lib.IntN.{ℤ, pos, negsuc, _-ℤ_}
 use lib.ListN.{length, getD}
 use lib.Seq.{sets}
 use native.Mathlib.Nat.{add-zero}
 use lib.Dec.{ltb}
-use borrow.Author.Tests.{lt-ltb, le-ltb, ltb-true, ltb-false}
+use borrow.Author.Tests.{lt-ltb, le-ltb}
 use mir.Syntax.{w32}
 use mir.Val.{SFits}
 use Rattle.whole.specs.Four.{wordAt, signedOf, numberAt, wordOf, bytesOf, four}
@@ -34,18 +34,13 @@ signed-word (negsuc n) h =
 lower-is : (u : ℕ) → u < 4294967296 → pos u -ℤ pos 4294967296 ≡ negsuc (4294967296 - suc u)
 lower-is u h = omega (lin, minus (pos u) (pos 4294967296))
 
-signed-case : (u : ℕ) (t : Bool) → ltb u 2147483648 ≡ t → u < 4294967296 → (wordOf (signedOf u) ≡ u) × SFits w32 (signedOf u)
+signed-case : (u : ℕ) (t : Bool) → ltb u 2147483648 ≡ t → u < 4294967296 → wordOf (signedOf u) ≡ u
 unfolding signedOf wordOf
-signed-case u true e h = rw e (refl, record { sfits = ltb-true u 2147483648 e })
-signed-case u false e h =
-    let l = ltb-false u 2147483648 e in
-    rw (e, lower-is u h) (omega arith, record { sfits = omega arith })
+signed-case u true e h = rw e refl
+signed-case u false e h = rw (e, lower-is u h) (omega arith)
 
 pub word-signed : (u : ℕ) → u < 4294967296 → wordOf (signedOf u) ≡ u
-word-signed u h = signed-case u (ltb u 2147483648) refl h .0
-
-pub signed-fits : (u : ℕ) → u < 4294967296 → SFits w32 (signedOf u)
-signed-fits u h = signed-case u (ltb u 2147483648) refl h .1
+word-signed u h = signed-case u (ltb u 2147483648) refl h
 
 -- u by its digits to the base 256, of which the fourth is the last
 quarters : (u : ℕ) → u < 4294967296 → u % 256 + 256 * (u / 256 % 256) + 65536 * (u / 65536 % 256) + 16777216 * (u / 16777216 % 256) ≡ u
@@ -76,6 +71,15 @@ word-back s i u room h =
 pub number-back : (s : List ℕ) (i : ℕ) (z : ℤ) → i + 4 ≤ length s → SFits w32 z → numberAt (sets s i (four z)) i ≡ z
 unfolding numberAt four
 number-back s i z room h = rw (word-back s i (wordOf z) room (word-small z h)) (signed-word z h)
+
+-- as it is at the front of what follows
+pub number-first : (z : ℤ) (rest : List ℕ) → SFits w32 z → numberAt (four z ++ rest) 0 ≡ z
+unfolding four bytesOf
+number-first z rest h = number-back (four z ++ rest) 0 z (omega arith) h
+
+pub four-length : (z : ℤ) → length (four z) ≡ 4
+unfolding four bytesOf
+four-length z = refl
 
 -- "every byte outside keeps its value"
 pub outside-kept : (s : List ℕ) (i j : ℕ) (z : ℤ) → (j < i) ⊎ (i + 4 ≤ j) → getD (sets s i (four z)) j 0 ≡ getD s j 0

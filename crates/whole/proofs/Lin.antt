@@ -3,14 +3,14 @@
 -- about those parts, or back. The set `lin` hands them all to `omega`, the more special shapes first, since `omega` takes the first
 -- that fits. A sum that stands deeper wants its own law in the list, as `omega (lin, plus a b)`; a negation `negs a`.
 use mathlib.Core.Path.{_≡_, refl, sym, ap, _∙_, subst}
-use Prim.Native.Nat.{ℕ, zero, suc, pred, max, _+_, _-_, _*_, _≤_, _<_, _^_}
+use Prim.Native.Nat.{ℕ, zero, suc, pred, max, _+_, _-_, _≤_, _<_, _^_}
 use native.Mathlib.Omega.{arith}
 use native.Mathlib.Decide.{decLe, decLt}
-use mathlib.Core.Bool.{Bool, true, false, not, cond}
-use lib.IntN.{ℤ, pos, negsuc, negℤ, subℕ, _+ℤ_, _-ℤ_}
-use lib.Signed.{mag, ltZ, leZ, _≤ℤ_, _<ℤ_}
+use mathlib.Core.Bool.{Bool, true, false, cond}
+use lib.IntN.{ℤ, pos, negsuc, negℤ, _+ℤ_, _-ℤ_}
+use lib.Signed.{ltZ, leZ, _≤ℤ_, _<ℤ_}
 use lib.Dec.{T, leb, ltb, leb→le, le→leb, ltb→lt, lt→ltb}
-use borrow.Author.Tests.{leb-true, leb-false, ltb-true, ltb-false, le-leb, lt-leb, lt-ltb, le-ltb}
+use borrow.Author.Tests.{ltb-true, ltb-false}
 use mir.Syntax.{Width}
 use mir.Val.{SFits, toZ, ofZ, hbits}
 use mir.Facts.{toZ-ofZ}
@@ -180,7 +180,7 @@ false-le a b h = no-T (leZ a b) (λ t. omega (arith, le-in a b t))
 pub false-lt : (a b : ℤ) → above b + below a ≤ above a + below b → ltZ a b ≡ false
 false-lt a b h = no-T (ltZ a b) (λ t. omega (arith, lt-in a b t))
 
-true-not-false : {t : Bool} → t ≡ true → t ≡ false → ⊥
+pub true-not-false : {t : Bool} → t ≡ true → t ≡ false → ⊥
 true-not-false p q = let z : _≡_ {A = ℕ} 0 1 = ap (λ b. cond b 0 1) (sym p ∙ q) in omega arith
 
 pub le-false : (a b : ℤ) → leZ a b ≡ false → above b + below a < above a + below b

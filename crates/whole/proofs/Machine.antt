@@ -1,6 +1,6 @@
 -- Numbers on their way through machine words: what a cast or a read of a number that fits gives is the number itself.
-use mathlib.Core.Path.{_≡_, refl, _∙_, ap, sym}
-use Prim.Native.Nat.{ℕ, suc, _+_, _-_, _≤_, _<_, _^_}
+use mathlib.Core.Path.{_≡_, refl}
+use Prim.Native.Nat.{ℕ, suc, _+_, _-_, _≤_, _<_}
 use native.Mathlib.Omega.{arith}
 use lib.IntN.{ℤ, pos, negsuc, natAbs, _+ℤ_, _-ℤ_}
 use lib.Signed.{_≤ℤ_, _<ℤ_, nonNeg}
@@ -8,10 +8,10 @@ use lib.Dec.{T, ltb}
 use mathlib.Core.Bool.{false}
 use borrow.Author.Tests.{le-ltb}
 use Rattle.whole.specs.Four.{wordOf}
-use mir.Syntax.{Width, w32, w64}
-use mir.Val.{SFits, Fits, toZ, ofZ}
-use mir.Facts.{toZ-ofZ, toZ-pos, sfits-widen}
-use Rattle.whole.proofs.Lin.{lin, plus, minus, above, below, fits-between}
+use mir.Syntax.{w32, w64}
+use mir.Val.{SFits, Fits, toZ}
+use mir.Facts.{toZ-pos, sfits-widen}
+use Rattle.whole.proofs.Lin.{lin, plus, minus, fits-between}
 
 -- a number below 2 ^ 32 as a signed 64-bit number
 pub wide-is : (u : ℕ) → u < 4294967296 → toZ w64 u ≡ pos u

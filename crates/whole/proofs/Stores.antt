@@ -1,6 +1,7 @@
--- A run of stores, `sets l i vs`: what stands in the run's places, and that every other place keeps its value.
-use mathlib.Core.Path.{_≡_, refl, sym, ap, _∙_}
-use mathlib.Core.List.{List, [], _∷_}
+-- A run of stores, `sets l i vs`: what stands in the run's places, that every other place keeps its value, and that runs which follow one
+-- another are one run.
+use mathlib.Core.Path.{_≡_, refl, _∙_}
+use mathlib.Core.List.{List, [], _∷_, _++_}
 use Prim.Native.Nat.{ℕ, zero, suc, _+_, _≤_, _<_}
 use native.Mathlib.Omega.{arith}
 use native.Mathlib.Nat.{add-zero}
@@ -25,3 +26,7 @@ module _ {A : Type 0} (d : A) where
   stores-at (a ∷ vs) l i (suc k) h g =
       let e : i + suc k ≡ suc i + k = omega arith in
       rw e (stores-at vs (set l i a) (suc i) k (rw length-set (omega arith)) (omega arith))
+
+pub stores-then : {A : Type 0} (a b l : List A) (i j : ℕ) → i + length a ≡ j → sets (sets l i a) j b ≡ sets l i (a ++ b)
+stores-then [] b l i j e = let k : j ≡ i = omega arith in rw k refl
+stores-then (x ∷ a) b l i j e = stores-then a b (set l i x) (suc i) j (omega arith)

@@ -1,7 +1,7 @@
--- Laws of sums over a list: of two lists, of two amounts, of amounts one above the other.
-use mathlib.Core.Path.{_≡_, refl}
+-- Laws of sums over a list: of two lists, and of amounts one above the other.
+use mathlib.Core.Path.{_≡_}
 use mathlib.Core.List.{List, [], _∷_, _++_}
-use lib.IntN.{ℤ, pos, _+ℤ_}
+use lib.IntN.{ℤ, _+ℤ_}
 use lib.Signed.{_≤ℤ_}
 use Rattle.whole.specs.Sums.{total}
 use Rattle.whole.proofs.Lin.{lin, plus}
@@ -10,12 +10,6 @@ module _ {E : Type 0} where
   pub total-append : (f : E → ℤ) (l m : List E) → total f (l ++ m) ≡ total f l +ℤ total f m
   total-append f [] m = omega lin
   total-append f (e ∷ l) m = let ih = total-append f l m in omega (lin, plus (f e) (total f l))
-
-  pub total-plus : (f g : E → ℤ) (l : List E) → total (λ e. f e +ℤ g e) l ≡ total f l +ℤ total g l
-  total-plus f g [] = refl
-  total-plus f g (e ∷ l) =
-      let ih = total-plus f g l in
-      omega (lin, plus (f e) (g e), plus (f e) (total f l), plus (g e) (total g l))
 
   pub total-mono : (f g : E → ℤ) (l : List E) → ((e : E) → f e ≤ℤ g e) → total f l ≤ℤ total g l
   total-mono f g [] h = omega lin

@@ -5,25 +5,19 @@ use Rattle.whole.proofs.Machine.{from-zero}
 use borrow.Author.Needs.{needs}
 use Rattle.exam.proofs.counted.Statement.{statement}
 use Rattle.exam.proofs.counted.Tie as tie
-use Rattle.exam.proofs.counted.Reads as reads
-use Rattle.exam.proofs.counted.Lts as lts
 
--- src/main.rt:18:9
 returns : tie.Need-returns
 returns c = search needs
 
--- src/main.rt:20:13
 cast-n : tie.Need-cast-n
 cast-n c =
     let f = c .before .fits .z in
     let u = from-zero _ f (let t = c .if1 .left in omega lin) in
     rw (toZ-ofZ f) (u .not-negative, fits-32-64 (u .fits))
 
--- src/main.rt:14:1
 returns-2 : tie.Need-returns-2
 returns-2 c = search needs
 
--- src/main.rt:14:1
 returns-3 : tie.Need-returns-3
 returns-3 c = search needs
 

@@ -5,8 +5,6 @@ use native.Mathlib.Omega.{arith}
 use lib.ListN.{length, length-set}
 use Rattle.exam.proofs.fill.Statement.{statement}
 use Rattle.exam.proofs.fill.Tie as tie
-use Rattle.exam.proofs.fill.Reads as reads
-use Rattle.exam.proofs.fill.Lts as lts
 
 abbrev Inv-loop : tie.InvT-loop
 Inv-loop out₀ i₀ out i = length out ≡ length out₀
@@ -14,43 +12,33 @@ Inv-loop out₀ i₀ out i = length out ≡ length out₀
 abbrev μ-loop : tie.MeasureT-loop
 μ-loop out₀ i₀ out i = length out - i
 
--- src/main.rt:34:5
 loop-holds : tie.Need-loop-holds Inv-loop μ-loop
 loop-holds c = refl
 
--- src/main.rt:35:20
 mul-out : tie.Need-mul-out Inv-loop μ-loop
 mul-out c = omega arith
 
--- src/main.rt:35:20
 add-out : tie.Need-add-out Inv-loop μ-loop
 add-out c = omega arith
 
--- src/main.rt:35:18
 cast-out : tie.Need-cast-out Inv-loop μ-loop
 cast-out c = omega arith
 
--- src/main.rt:35:9
 slice-write-out : tie.Need-slice-write-out Inv-loop μ-loop
 slice-write-out c = omega arith
 
--- src/main.rt:36:9
 add-i : tie.Need-add-i Inv-loop μ-loop
 add-i c = omega arith
 
--- src/main.rt:34:5
 loop-less : tie.Need-loop-less Inv-loop μ-loop
 loop-less c = simp length-set (omega arith)
 
--- src/main.rt:34:5
 loop-again : tie.Need-loop-again Inv-loop μ-loop
 loop-again c = simp length-set (c .before .loop .inv)
 
--- src/main.rt:32:1
 same-length : tie.Need-same-length Inv-loop μ-loop
 same-length c = c .before .loop .inv
 
--- src/main.rt:32:1
 returns : tie.Need-returns Inv-loop μ-loop
 returns c = tt
 

@@ -4,9 +4,6 @@ use native.Mathlib.Omega.{arith}
 use lib.ListN.{length}
 use Rattle.exam.proofs.serve_all.Statement.{statement}
 use Rattle.exam.proofs.serve_all.Tie as tie
-use Rattle.exam.proofs.serve_all.Reads as reads
-use Rattle.exam.proofs.serve_all.Lts as lts
-use Rattle.exam.proofs.serve.Reads as serve-reads
 
 abbrev Inv-loop : tie.InvT-loop
 Inv-loop file₀ out₀ turns₀ file out turns = (length file ≡ length file₀) × (length out ≡ length out₀)
@@ -14,47 +11,36 @@ Inv-loop file₀ out₀ turns₀ file out turns = (length file ≡ length file�
 abbrev μ-loop : tie.MeasureT-loop
 μ-loop file₀ out₀ turns₀ file out turns = turns
 
--- src/main.rt:130:5
 loop-holds : tie.Need-loop-holds Inv-loop μ-loop
 loop-holds c = (refl, refl)
 
--- src/main.rt:130:24
 serve-requires : tie.Need-serve-requires Inv-loop μ-loop
 serve-requires c κs = tt
 
--- src/main.rt:131:9
 sub-turns : tie.Need-sub-turns Inv-loop μ-loop
 sub-turns c = omega arith
 
--- src/main.rt:130:5
 loop-less : tie.Need-loop-less Inv-loop μ-loop
 loop-less c = omega arith
 
--- src/main.rt:130:5
 loop-again : tie.Need-loop-again Inv-loop μ-loop
 loop-again c = (c .before .before .before .before .before .serve .kept .0 ∙ c .before .before .before .before .before .before .before .before .before .loop .inv .0, c .before .before .before .before .before .serve .kept .1 .0 ∙ c .before .before .before .before .before .before .before .before .before .loop .inv .1)
 
--- src/main.rt:128:1
 same-length : tie.Need-same-length Inv-loop μ-loop
 same-length c = c .before .before .before .before .before .serve .kept .0 ∙ c .before .before .before .before .before .before .before .before .before .loop .inv .0
 
--- src/main.rt:128:1
 same-length-2 : tie.Need-same-length-2 Inv-loop μ-loop
 same-length-2 c = c .before .before .before .before .before .serve .kept .1 .0 ∙ c .before .before .before .before .before .before .before .before .before .loop .inv .1
 
--- src/main.rt:128:1
 returns : tie.Need-returns Inv-loop μ-loop
 returns c = tt
 
--- src/main.rt:128:1
 same-length-3 : tie.Need-same-length-3 Inv-loop μ-loop
 same-length-3 c = c .before .loop .inv .0
 
--- src/main.rt:128:1
 same-length-4 : tie.Need-same-length-4 Inv-loop μ-loop
 same-length-4 c = c .before .loop .inv .1
 
--- src/main.rt:128:1
 returns-2 : tie.Need-returns-2 Inv-loop μ-loop
 returns-2 c = tt
 

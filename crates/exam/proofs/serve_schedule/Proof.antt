@@ -4,78 +4,55 @@ use lib.Seq.{length-take-le}
 use borrow.Author.Needs.{needs}
 use Rattle.exam.proofs.serve_schedule.Statement.{statement}
 use Rattle.exam.proofs.serve_schedule.Tie as tie
-use Rattle.exam.proofs.serve_schedule.Reads as reads
-use Rattle.exam.proofs.serve_schedule.Lts as lts
-use Rattle.exam.proofs.counted.Reads as counted-reads
-use Rattle.exam.proofs.schedule.Reads as schedule-reads
-use Rattle.io.proofs.read_full.Reads as read-full-reads
-use Rattle.whole.proofs.number.Reads as number-reads
 
--- src/main.rt:95:25
 slice-aggregate-read-full : tie.Need-slice-aggregate-read-full
 slice-aggregate-read-full c = search needs
 
--- src/main.rt:95:8
 read-full-requires : tie.Need-read-full-requires
 read-full-requires c κs = search needs
 
--- src/main.rt:96:9
 returns : tie.Need-returns
 returns c = search needs
 
--- src/main.rt:98:38
 slice-aggregate-number : tie.Need-slice-aggregate-number
 slice-aggregate-number c = search needs
 
--- src/main.rt:98:24
 number-requires : tie.Need-number-requires
 number-requires c κs = search needs
 
--- src/main.rt:98:9
 counted-requires : tie.Need-counted-requires
 counted-requires c κs = search needs
 
--- src/main.rt:99:40
 slice-aggregate-number-2 : tie.Need-slice-aggregate-number-2
 slice-aggregate-number-2 c = search needs
 
--- src/main.rt:99:26
 number-requires-2 : tie.Need-number-requires-2
 number-requires-2 c κs = search needs
 
--- src/main.rt:99:9
 counted-requires-2 : tie.Need-counted-requires-2
 counted-requires-2 c κs = search needs
 
--- src/main.rt:100:14
 slice-relend-prefix-schedule : tie.Need-slice-relend-prefix-schedule
 slice-relend-prefix-schedule c = search needs
 
--- src/main.rt:100:14
 slice-aggregate-schedule : tie.Need-slice-aggregate-schedule
 slice-aggregate-schedule c = sym (length-take-le _ _ (c .before .counted2 .ensures))
 
--- src/main.rt:100:35
 slice-relend-prefix-schedule-2 : tie.Need-slice-relend-prefix-schedule-2
 slice-relend-prefix-schedule-2 c = search needs
 
--- src/main.rt:100:35
 slice-aggregate-schedule-2 : tie.Need-slice-aggregate-schedule-2
 slice-aggregate-schedule-2 c = sym (length-take-le _ _ (c .before .before .before .before .before .counted .ensures))
 
--- src/main.rt:100:5
 schedule-requires : tie.Need-schedule-requires
 schedule-requires c κs = search needs
 
--- src/main.rt:93:1
 same-length : tie.Need-same-length
 same-length c = search needs
 
--- src/main.rt:93:1
 same-length-2 : tie.Need-same-length-2
 same-length-2 c = search needs
 
--- src/main.rt:93:1
 returns-2 : tie.Need-returns-2
 returns-2 c = search needs
 

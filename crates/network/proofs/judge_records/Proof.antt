@@ -1,7 +1,7 @@
 -- `network::judge_records` meets its contract: each way through the two searches is one row of the paper's table.
 use native.Mathlib.Omega.{arith}
 use borrow.Author.Needs.{needs}
-use Rattle.network.proofs.Counts.{counts-small}
+use Rattle.paper.proofs.Legal.{counts-to}
 use Rattle.network.proofs.Judging.{sized-length, at-register, at-path, at-none}
 use Rattle.network.proofs.judge_records.Statement.{statement}
 use Rattle.network.proofs.judge_records.Tie as tie
@@ -25,7 +25,7 @@ lowest-path-requires : tie.Need-lowest-path-requires
 lowest-path-requires c κs =
     let before = c .before .before .before .before .before .before .pre in
     let l = sized-length _ (before .1) in
-    let s = counts-small _ (before .0) in
+    let s = counts-to _ (before .0) in
     (c .before .before .before .before .count .ensures, omega arith, omega arith)
 
 enum-known-path : tie.Need-enum-known-path

@@ -8,17 +8,14 @@ use lib.Dec.{lit≤}
 use denote.Ref.{now}
 use Rattle.paper.specs.File.{networkOf}
 use Rattle.paper.proofs.Legal.{accepted-legal}
+use Rattle.loops.specs.Arrows.{arrows}
 use Rattle.loops.specs.Layout.{Lays, fixedCount}
-use Rattle.rounds.specs.Shape.{arrows}
 use Rattle.arrows.proofs.Laid.{fixed-is, filled-fixed}
 use Rattle.period.proofs.Laid.{laid-shape, laid-bounded}
 use Rattle.period.proofs.Ends.{freed}
 use borrow.Author.Needs.{needs}
 use Rattle.period.proofs.free.Statement.{statement}
 use Rattle.period.proofs.free.Tie as tie
-use Rattle.period.proofs.free.Reads as reads
-use Rattle.period.proofs.free.Lts as lts
-use Rattle.rounds.proofs.relax.relax.Reads as relax-reads
 
 -- the rules that do not know the period, as the caller's lists lay them
 count : (k : tie.Start) → 2 * (k .args .n - 1) + k .args .m ≡ fixedCount (networkOf (now (k .args .file)))
@@ -28,19 +25,15 @@ laid : (k : tie.Start)
     → Lays (networkOf (now (k .args .file))) 1 (arrows (k .args .n) (2 * (k .args .n - 1) + k .args .m) (now (k .args .tail)) (now (k .args .head)) (now (k .args .amount)))
 laid k = rw (count k) (filled-fixed _ _ 1 (k .pre .0 .1) (k .pre .1 .0))
 
--- src/lib.rt:42:22
 sub-fixed : tie.Need-sub-fixed
 sub-fixed c = let k = c .before .before .before .before .before in let l = accepted-legal _ (k .pre .0 .0) .registers-from in let e = k .pre .0 .1 in omega arith
 
--- src/lib.rt:42:17
 mul-fixed : tie.Need-mul-fixed
 mul-fixed c = search needs
 
--- src/lib.rt:42:17
 add-fixed : tie.Need-add-fixed
 add-fixed c = search needs
 
--- src/lib.rt:43:5
 relax-requires : tie.Need-relax-requires
 relax-requires c κs =
     let k = c .before .before .before .before .before .before .before .before .before .before in
@@ -51,23 +44,18 @@ relax-requires c κs =
       (laid-bounded _ l _ 1 _ _ _ _ (lit≤ tt) y (k .pre .1 .0 .room) (le-of-eq (sym (count k))), (s .0, s .1, s .2, s .3)),
     )
 
--- src/lib.rt:23:1
 same-length : tie.Need-same-length
 same-length c = search needs
 
--- src/lib.rt:23:1
 same-length-2 : tie.Need-same-length-2
 same-length-2 c = search needs
 
--- src/lib.rt:23:1
 same-length-3 : tie.Need-same-length-3
 same-length-3 c = search needs
 
--- src/lib.rt:23:1
 same-length-4 : tie.Need-same-length-4
 same-length-4 c = search needs
 
--- src/lib.rt:23:1
 returns : tie.Need-returns
 returns c = let k = c .before .before .before .before .before .before .before .before .before .before .before .before .before .before .before .before .before in freed _ 1 _ (laid k) (count k) _ _ _ _ (c .before .before .before .before .before .before .relax .ensures)
 

@@ -13,11 +13,6 @@ use Rattle.period.proofs.Trials.{trial-listed}
 use borrow.Author.Needs.{needs}
 use Rattle.period.proofs.search.Statement.{statement}
 use Rattle.period.proofs.search.Tie as tie
-use Rattle.period.proofs.search.Reads as reads
-use Rattle.period.proofs.search.Lts as lts
-use Rattle.answer.proofs.loop_alone.Reads as loop-alone-reads
-use Rattle.period.proofs.climb.Reads as climb-reads
-use Rattle.period.proofs.free.Reads as free-reads
 
 legal-of : (k : tie.Start) → Legal (networkOf (now (k .args .file)))
 legal-of k = accepted-legal _ (k .pre .0 .0)
@@ -27,63 +22,53 @@ room : (c : tie.After-free) → c .free .result ≤ length (c .free .last .1 .1 
 room c =
     let k = c .free .kept .1 .1 .1 .1 .1 .1 .1 .1 .1 .1 .0 in
     let s = c .before .before .before .before .before .before .before .before .before .before .before .before .pre .1 .1 .loop in
-    let e = c .before .before .before .before .before .before .before .before .before .before .before .before .pre .0 .1 .registers in
+    let e = c .before .before .before .before .before .before .before .before .before .before .before .before .pre .0 .1 .bounds .registers in
     let short = c .free .ensures .short in
     omega arith
 
--- src/lib.rt:112:9
 free-requires : tie.Need-free-requires
 free-requires c κs =
     let k = c .before .before .before .before .before .before .before .before .before .before .before in
     let s = k .pre .1 .1 in
-    ((k .pre .0 .0, k .pre .0 .1 .registers, k .pre .0 .1 .paths), (k .pre .1 .0, (s .row, s .other, s .preds, s .loop)))
+    ((k .pre .0 .0, k .pre .0 .1 .bounds .registers, k .pre .0 .1 .bounds .paths), (k .pre .1 .0, (s .row, s .other, s .preds, s .loop)))
 
--- src/lib.rt:114:9
 loop-alone-requires : tie.Need-loop-alone-requires
 loop-alone-requires c κs =
     let k = c .before .before .before .before .before .before .before .before .before .before .before .before .before .before .before .before .before .before .before .before .before in
     let f = c .before .before .before .before .before .before .before .before .before .free in
-    let e = k .pre .0 .1 .registers in
+    let e = k .pre .0 .1 .bounds .registers in
     let short = f .ensures .short in (
-      trial-listed _ (legal-of k) _ _ _ _ (k .pre .0 .1 .registers) (k .pre .0 .1 .paths) (room (c .before .before .before .before .before .before .before .before .before)) (f .ensures .exist),
+      trial-listed _ (legal-of k) _ _ _ _ (k .pre .0 .1 .bounds .registers) (k .pre .0 .1 .bounds .paths) (room (c .before .before .before .before .before .before .before .before .before)) (f .ensures .exist),
       (k .pre .1 .1 .output, omega arith),
     )
 
--- src/lib.rt:115:9
 same-length : tie.Need-same-length
 same-length c = search needs
 
--- src/lib.rt:115:9
 same-length-2 : tie.Need-same-length-2
 same-length-2 c = search needs
 
--- src/lib.rt:115:9
 same-length-3 : tie.Need-same-length-3
 same-length-3 c = search needs
 
--- src/lib.rt:115:9
 same-length-4 : tie.Need-same-length-4
 same-length-4 c = search needs
 
--- src/lib.rt:115:9
 same-length-5 : tie.Need-same-length-5
 same-length-5 c = search needs
 
--- src/lib.rt:115:9
 same-length-6 : tie.Need-same-length-6
 same-length-6 c = search needs
 
--- src/lib.rt:115:9
 returns : tie.Need-returns
 returns c =
     let k = c .before .before .before .before .before .before .before .before .before .before .before .before .before .before .before .before .before .before .before .before .before .before .before .before in
     let f = c .before .before .before .before .before .before .before .before .before .before .before .before .free in
     let h : 0 < f .result = omega arith in
-    ends-no-period _ _ _ _ _ (room (c .before .before .before .before .before .before .before .before .before .before .before .before)) (f .ensures) h (c .before .before .loop-alone .ensures _ (sym (k .pre .0 .1 .registers)) (sym (k .pre .0 .1 .paths)))
+    ends-no-period _ _ _ _ _ (room (c .before .before .before .before .before .before .before .before .before .before .before .before)) (f .ensures) h (c .before .before .loop-alone .ensures _ (sym (k .pre .0 .1 .bounds .registers)) (sym (k .pre .0 .1 .bounds .paths)))
 
--- src/lib.rt:117:5
-climb-requires : tie.Need-climb-requires
-climb-requires c κs =
+ascend-requires : tie.Need-ascend-requires
+ascend-requires c κs =
     let k = c .before .before .before .before .before .before .before .before .before .before .before .before .before .before .before .before .before .before .before .before .before .before .before .before .before in
     let f = c .before .before .before .before .before .before .before .before .before .before .before .before .before .free in
     let z : f .result ≡ 0 = omega arith in
@@ -94,10 +79,8 @@ climb-requires c κs =
       (
         k .pre .0 .0,
         record {
-          registers = n .registers;
-          paths = n .paths;
+          bounds = record { registers = n .bounds .registers; paths = n .bounds .paths; to = toZ-ofZ (k .fits .ceiling) ∙ n .bounds .to };
           from = toZ-ofZ (k .fits .floor) ∙ n .from;
-          to = toZ-ofZ (k .fits .ceiling) ∙ n .to;
         },
         f .ensures .some z,
       ),
@@ -113,31 +96,24 @@ climb-requires c κs =
       ),
     )
 
--- src/lib.rt:91:1
 same-length-7 : tie.Need-same-length-7
 same-length-7 c = search needs
 
--- src/lib.rt:91:1
 same-length-8 : tie.Need-same-length-8
 same-length-8 c = search needs
 
--- src/lib.rt:91:1
 same-length-9 : tie.Need-same-length-9
 same-length-9 c = search needs
 
--- src/lib.rt:91:1
 same-length-10 : tie.Need-same-length-10
 same-length-10 c = search needs
 
--- src/lib.rt:91:1
 same-length-11 : tie.Need-same-length-11
 same-length-11 c = search needs
 
--- src/lib.rt:91:1
 same-length-12 : tie.Need-same-length-12
 same-length-12 c = search needs
 
--- src/lib.rt:91:1
 returns-2 : tie.Need-returns-2
 returns-2 c = search needs
 
@@ -154,7 +130,7 @@ search-spec =
     same-length-5
     same-length-6
     returns
-    climb-requires
+    ascend-requires
     same-length-7
     same-length-8
     same-length-9

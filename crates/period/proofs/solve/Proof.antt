@@ -1,8 +1,7 @@
 -- `period::solve` meets its contract: the module's own memory is large enough for every accepted network.
-use mathlib.Core.Path.{_≡_, sym, _∙_}
-use Prim.Native.Nat.{_≤_, _<_}
+use mathlib.Core.Path.{sym, _∙_}
+use Prim.Native.Nat.{_≤_}
 use native.Mathlib.Omega.{arith}
-use lib.ListN.{length}
 use lib.Seq.{length-take-le}
 use denote.Ref.{now}
 use mir.Syntax.{w32}
@@ -14,11 +13,6 @@ use Rattle.arrows.proofs.Laid.{rules-few}
 use borrow.Author.Needs.{needs}
 use Rattle.period.proofs.solve.Statement.{statement}
 use Rattle.period.proofs.solve.Tie as tie
-use Rattle.period.proofs.solve.Reads as reads
-use Rattle.period.proofs.solve.Lts as lts
-use Rattle.arrows.proofs.fill.Reads as fill-reads
-use Rattle.network.proofs.read.header.Reads as header-reads
-use Rattle.period.proofs.search.Reads as search-reads
 
 legal-of : (k : tie.Start) → Legal (networkOf (now (k .args .file)))
 legal-of k = accepted-legal _ (k .pre .0)
@@ -26,27 +20,21 @@ legal-of k = accepted-legal _ (k .pre .0)
 few : (c : tie.After-header) → c .header .result .registers ≤ 256
 few c = let e = c .header .ensures .registers in let t = legal-of (c .before .before .before) .registers-to in omega arith
 
--- src/lib.rt:128:9
 header-requires : tie.Need-header-requires
 header-requires c κs = search needs
 
--- src/lib.rt:141:30
 slice-aggregate-fill : tie.Need-slice-aggregate-fill
 slice-aggregate-fill c = search needs
 
--- src/lib.rt:141:41
 slice-aggregate-fill-2 : tie.Need-slice-aggregate-fill-2
 slice-aggregate-fill-2 c = search needs
 
--- src/lib.rt:141:52
 slice-aggregate-fill-3 : tie.Need-slice-aggregate-fill-3
 slice-aggregate-fill-3 c = search needs
 
--- src/lib.rt:141:65
 slice-aggregate-fill-4 : tie.Need-slice-aggregate-fill-4
 slice-aggregate-fill-4 c = search needs
 
--- src/lib.rt:141:5
 fill-requires : tie.Need-fill-requires
 fill-requires c κs =
     let k = c .before .before .before .before .before .before .before .before .before in
@@ -57,51 +45,39 @@ fill-requires c κs =
     let e = h .paths in
     ((k .pre .0, h .registers, h .paths, omega arith), record { in-tails = omega arith; in-heads = omega arith; in-amounts = omega arith })
 
--- src/lib.rt:148:9
 slice-aggregate-search : tie.Need-slice-aggregate-search
 slice-aggregate-search c = search needs
 
--- src/lib.rt:149:9
 slice-aggregate-search-2 : tie.Need-slice-aggregate-search-2
 slice-aggregate-search-2 c = search needs
 
--- src/lib.rt:150:9
 slice-aggregate-search-3 : tie.Need-slice-aggregate-search-3
 slice-aggregate-search-3 c = search needs
 
--- src/lib.rt:151:9
 slice-aggregate-search-4 : tie.Need-slice-aggregate-search-4
 slice-aggregate-search-4 c = search needs
 
--- src/lib.rt:152:9
 array-borrow-prefix-a : tie.Need-array-borrow-prefix-a
 array-borrow-prefix-a c = few (c .before .before .before .before .before .before .before .before .before .before .before .before .before .before .before)
 
--- src/lib.rt:152:9
 slice-aggregate-search-5 : tie.Need-slice-aggregate-search-5
 slice-aggregate-search-5 c = sym (length-take-le _ _ (few (c .before .before .before .before .before .before .before .before .before .before .before .before .before .before .before .before)))
 
--- src/lib.rt:153:9
 array-borrow-prefix-b : tie.Need-array-borrow-prefix-b
 array-borrow-prefix-b c = few (c .before .before .before .before .before .before .before .before .before .before .before .before .before .before .before .before)
 
--- src/lib.rt:153:9
 slice-aggregate-search-6 : tie.Need-slice-aggregate-search-6
 slice-aggregate-search-6 c = sym (length-take-le _ _ (few (c .before .before .before .before .before .before .before .before .before .before .before .before .before .before .before .before .before)))
 
--- src/lib.rt:154:9
 array-borrow-prefix-p : tie.Need-array-borrow-prefix-p
 array-borrow-prefix-p c = few (c .before .before .before .before .before .before .before .before .before .before .before .before .before .before .before .before .before)
 
--- src/lib.rt:154:9
 slice-aggregate-search-7 : tie.Need-slice-aggregate-search-7
 slice-aggregate-search-7 c = sym (length-take-le _ _ (few (c .before .before .before .before .before .before .before .before .before .before .before .before .before .before .before .before .before .before)))
 
--- src/lib.rt:155:9
 slice-aggregate-search-8 : tie.Need-slice-aggregate-search-8
 slice-aggregate-search-8 c = search needs
 
--- src/lib.rt:142:5
 search-requires : tie.Need-search-requires
 search-requires c κs =
     let k = c .before .before .before .before .before .before .before .before .before .before .before .before .before .before .before .before .before .before .before .before .before .before .before in
@@ -113,10 +89,8 @@ search-requires c κs =
       (
         k .pre .0,
         record {
-          registers = h .ensures .registers;
-          paths = h .ensures .paths;
+          bounds = record { registers = h .ensures .registers; paths = h .ensures .paths; to = toZ-ofZ ceiling ∙ h .ensures .ceiling };
           from = toZ-ofZ floor ∙ h .ensures .floor;
-          to = toZ-ofZ ceiling ∙ h .ensures .ceiling;
         },
       ),
       (
@@ -131,11 +105,9 @@ search-requires c κs =
       ),
     )
 
--- src/lib.rt:124:1
 same-length : tie.Need-same-length
 same-length c = search needs
 
--- src/lib.rt:124:1
 returns : tie.Need-returns
 returns c = search needs
 

@@ -6,31 +6,19 @@ use Rattle.skew_c.proofs.Unpacked.{replied}
 use borrow.Author.Needs.{needs}
 use Rattle.skew_c.proofs.skew_question.Statement.{statement}
 use Rattle.skew_c.proofs.skew_question.Tie as tie
-use Rattle.skew_c.proofs.skew_question.Reads as reads
-use Rattle.skew_c.proofs.skew_question.Lts as lts
-use Rattle.skew.proofs.codes.reply_number.Reads as reply-number-reads
-use Rattle.skew.proofs.codes.reply_place.Reads as reply-place-reads
-use Rattle.skew.proofs.question.question.Reads as question-reads
-use Rattle.skew_c.proofs.pack.Reads as pack-reads
-use Rattle.skew_c.proofs.yes_of.Reads as yes-of-reads
 
--- src/lib.rt:35:9
 question-requires : tie.Need-question-requires
 question-requires c κs = search needs
 
--- src/lib.rt:36:9
 reply-number-requires : tie.Need-reply-number-requires
 reply-number-requires c κs = search needs
 
--- src/lib.rt:37:9
 reply-place-requires : tie.Need-reply-place-requires
 reply-place-requires c κs = search needs
 
--- src/lib.rt:38:9
 yes-of-requires : tie.Need-yes-of-requires
 yes-of-requires c κs = search needs
 
--- src/lib.rt:39:5
 pack-requires : tie.Need-pack-requires
 pack-requires c κs =
     let p = c .before .reply-place .ensures in
@@ -39,7 +27,6 @@ pack-requires c κs =
     let t = yes-to (c .before .before .before .question .result) in
     (omega arith, omega arith)
 
--- src/lib.rt:24:1
 returns : tie.Need-returns
 returns c =
     let n = c .before .before .before .reply-number .ensures in

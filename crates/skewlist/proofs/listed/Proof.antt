@@ -2,29 +2,20 @@
 use borrow.Author.Needs.{needs}
 use Rattle.skewlist.proofs.listed.Statement.{statement}
 use Rattle.skewlist.proofs.listed.Tie as tie
-use Rattle.skewlist.proofs.listed.Reads as reads
-use Rattle.skewlist.proofs.listed.Lts as lts
-use Rattle.listing.proofs.list.Reads as list-reads
-use Rattle.skew.proofs.schedule.schedule.Reads as schedule-reads
 use Rattle.skewlist.proofs.Left.{counted, listed-as}
 
--- src/main.rt:19:9
 schedule-requires : tie.Need-schedule-requires
 schedule-requires c κs = search needs
 
--- src/main.rt:20:5
 list-requires : tie.Need-list-requires
 list-requires c κs = record { counted = counted (c .before .before .before .before .schedule .result) (c .before .before .before .before .schedule .ensures); room = search needs }
 
--- src/main.rt:14:1
 same-length : tie.Need-same-length
 same-length c = search needs
 
--- src/main.rt:14:1
 same-length-2 : tie.Need-same-length-2
 same-length-2 c = search needs
 
--- src/main.rt:14:1
 returns : tie.Need-returns
 returns c = listed-as (c .before .before .before .before .before .before .before .schedule .result) (c .before .before .before .before .before .before .before .schedule .ensures) (c .before .before .list .ensures)
 

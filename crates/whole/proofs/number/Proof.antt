@@ -4,20 +4,13 @@ use Rattle.whole.specs.Four.{numberAt, signedOf}
 use borrow.Author.Needs.{needs}
 use Rattle.whole.proofs.number.Statement.{statement}
 use Rattle.whole.proofs.number.Tie as tie
-use Rattle.whole.proofs.number.Reads as reads
-use Rattle.whole.proofs.number.Lts as lts
-use Rattle.whole.proofs.signed.Reads as signed-reads
-use Rattle.whole.proofs.word.Reads as word-reads
 
--- src/lib.rt:36:12
 word-requires : tie.Need-word-requires
 word-requires c κs = search needs
 
--- src/lib.rt:36:5
 signed-requires : tie.Need-signed-requires
 signed-requires c κs = search needs
 
--- src/lib.rt:32:1
 returns : tie.Need-returns
 unfolding numberAt
 returns c = toZ-ofZ (search needs) ∙ c .signed .ensures ∙ ap signedOf (c .before .word .ensures)

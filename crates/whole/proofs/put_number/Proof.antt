@@ -8,24 +8,16 @@ use Rattle.whole.specs.Four.{four, bytesOf}
 use borrow.Author.Needs.{needs}
 use Rattle.whole.proofs.put_number.Statement.{statement}
 use Rattle.whole.proofs.put_number.Tie as tie
-use Rattle.whole.proofs.put_number.Reads as reads
-use Rattle.whole.proofs.put_number.Lts as lts
-use Rattle.whole.proofs.put_word.Reads as put-word-reads
-use Rattle.whole.proofs.unsigned.Reads as unsigned-reads
 
--- src/lib.rt:64:23
 unsigned-requires : tie.Need-unsigned-requires
 unsigned-requires c κs = search needs
 
--- src/lib.rt:64:5
 put-word-requires : tie.Need-put-word-requires
 put-word-requires c κs = search needs
 
--- src/lib.rt:60:1
 same-length : tie.Need-same-length
 same-length c = search needs
 
--- src/lib.rt:60:1
 returns : tie.Need-returns
 unfolding four
 returns c =

@@ -5,58 +5,43 @@ use native.Mathlib.Numerals.{add-one, add-two, add-three}
 use borrow.Author.Needs.{needs}
 use Rattle.whole.proofs.put_word.Statement.{statement}
 use Rattle.whole.proofs.put_word.Tie as tie
-use Rattle.whole.proofs.put_word.Reads as reads
-use Rattle.whole.proofs.put_word.Lts as lts
 
--- src/lib.rt:53:15
 cast-out : tie.Need-cast-out
 cast-out c = search needs
 
--- src/lib.rt:53:5
 slice-write-out : tie.Need-slice-write-out
 slice-write-out c = search needs
 
--- src/lib.rt:54:19
 cast-out-2 : tie.Need-cast-out-2
 cast-out-2 c = search needs
 
--- src/lib.rt:54:9
 add-out : tie.Need-add-out
 add-out c = search needs
 
--- src/lib.rt:54:5
 slice-write-out-2 : tie.Need-slice-write-out-2
 slice-write-out-2 c = simp length-set (omega arith)
 
--- src/lib.rt:55:19
 cast-out-3 : tie.Need-cast-out-3
 cast-out-3 c = search needs
 
--- src/lib.rt:55:9
 add-out-2 : tie.Need-add-out-2
 add-out-2 c = search needs
 
--- src/lib.rt:55:5
 slice-write-out-3 : tie.Need-slice-write-out-3
 slice-write-out-3 c = simp length-set (omega arith)
 
--- src/lib.rt:56:19
 cast-out-4 : tie.Need-cast-out-4
 cast-out-4 c = search needs
 
--- src/lib.rt:56:9
 add-out-3 : tie.Need-add-out-3
 add-out-3 c = search needs
 
--- src/lib.rt:56:5
 slice-write-out-4 : tie.Need-slice-write-out-4
 slice-write-out-4 c = simp length-set (omega arith)
 
--- src/lib.rt:49:1
 same-length : tie.Need-same-length
 same-length c = simp length-set
 
--- src/lib.rt:49:1
 returns : tie.Need-returns
 unfolding bytesOf
 returns c = simp (add-one, add-two, add-three)

@@ -6,14 +6,12 @@ use native.Mathlib.Omega.{arith}
 use lib.Dec.{lit≤}
 use lib.IntN.{pos, _-ℤ_}
 use mir.Val.{SFits}
-use mir.Syntax.{w32, w64}
+use mir.Syntax.{w32}
 use mir.Facts.{toZ-ofZ, toZ-pos}
 use Rattle.whole.specs.Four.{signedOf}
 use Rattle.whole.proofs.Machine.{wide-is, less-fits, less-fits-half}
 use Rattle.whole.proofs.signed.Statement.{statement}
 use Rattle.whole.proofs.signed.Tie as tie
-use Rattle.whole.proofs.signed.Reads as reads
-use Rattle.whole.proofs.signed.Lts as lts
 
 cast-result : tie.Need-cast-result
 cast-result c = search needs

@@ -1,17 +1,11 @@
 -- `whole::unsigned` meets its contract: a number below 0 stands at itself more 2 ^ 32, one from 0 up at itself.
-use borrow.Author.Needs.{needs}
-use mir.Syntax.{w32, w64}
 use mir.Facts.{toZ-ofZ}
-use mathlib.Core.Path.{_∙_, ap}
-use lib.IntN.{natAbs, pos}
+use lib.IntN.{pos}
 use lib.Signed.{_<ℤ_, _≤ℤ_}
-use Rattle.whole.specs.Four.{wordOf}
 use Rattle.whole.proofs.Lin.{lin}
-use Rattle.whole.proofs.Machine.{widens, raised-fits, below-zero, from-zero, Unsigned}
+use Rattle.whole.proofs.Machine.{widens, raised-fits, below-zero, from-zero}
 use Rattle.whole.proofs.unsigned.Statement.{statement}
 use Rattle.whole.proofs.unsigned.Tie as tie
-use Rattle.whole.proofs.unsigned.Reads as reads
-use Rattle.whole.proofs.unsigned.Lts as lts
 
 is-below : (c : tie.Then1) → c .before .args .z <ℤ pos 0
 is-below c = let f = c .before .fits .z in omega lin

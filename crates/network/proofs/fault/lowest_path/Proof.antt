@@ -1,29 +1,48 @@
--- `network::fault::lowest_path` meets its contract. The loop's invariant: every path passed so far is sound.
+-- `network::fault::lowest_path` meets its contract. The loop's invariant: the next record is path p's, and every path passed so far is
+-- sound.
 use mathlib.Core.Path.{_≡_, sym, _∙_}
 use mathlib.Core.Bool.{true}
-use Prim.Native.Nat.{ℕ, _≤_, _<_, _-_}
+use Prim.Native.Nat.{ℕ, _+_, _*_, _<_, _-_}
 use native.Mathlib.Omega.{arith}
 use borrow.Author.Count.{below-more}
 use borrow.Author.Tests.{not-true, not-false}
+use denote.Ref.{now}
 use Rattle.paper.specs.File.{pathOk}
+use Rattle.network.proofs.Joined.{path-there}
 use Rattle.network.proofs.fault.lowest_path.Statement.{statement}
 use Rattle.network.proofs.fault.lowest_path.Tie as tie
 
 abbrev Inv-loop : tie.InvT-loop
-Inv-loop file n m p₀ p = (k : ℕ) → k < p → pathOk file k ≡ true
+Inv-loop file n m p₀ at₀ p at = (at ≡ 22 + 18 * (n + p)) × ((k : ℕ) → k < p → pathOk file k ≡ true)
 
 abbrev μ-loop : tie.MeasureT-loop
-μ-loop file n m p₀ p = m - p
+μ-loop file n m p₀ at₀ p at = m - p
+
+mul-at : tie.Need-mul-at Inv-loop μ-loop
+mul-at c = omega arith
+
+add-at : tie.Need-add-at Inv-loop μ-loop
+add-at c = omega arith
 
 loop-holds : tie.Need-loop-holds Inv-loop μ-loop
-loop-holds c = λ k l. absurd (omega arith)
+loop-holds c = (omega arith, λ k l. absurd (omega arith))
+
+record-requires : tie.Need-record-requires Inv-loop μ-loop
+record-requires c κs = let e = c .before .loop .inv .0 in omega arith
 
 path-ok-requires : tie.Need-path-ok-requires Inv-loop μ-loop
-path-ok-requires c κs = let h = c .before .before .before .pre in (h .0, h .1, omega arith)
+path-ok-requires c κs = c .before .before .before .before .pre .1
+
+-- what the test of a record says is said of path p, whose place it was read at
+tested : (c : tie.After-path-ok Inv-loop μ-loop) → c .path-ok .result ≡ pathOk (now (c .before .before .before .before .before .args .file)) (c .before .before .before .loop .p)
+tested c =
+    let k = c .before .before .before .before .before .pre .0 in
+    c .path-ok .ensures _ _ k (path-there _ _ _ _ k (c .before .before .before .loop .inv .0) (c .before .«record» .ensures))
 
 returns : tie.Need-returns Inv-loop μ-loop
 returns c =
-    (c .before .before .loop-test .taken, sym (c .before .path-ok .ensures) ∙ not-true _ (c .if1 .taken), c .before .before .before .loop .inv)
+    let inv = c .before .before .before .before .loop .inv in
+    (c .before .before .before .loop-test .taken, sym (tested (c .before)) ∙ not-true _ (c .if1 .taken), inv .1)
 
 add-p : tie.Need-add-p Inv-loop μ-loop
 add-p c = omega arith
@@ -33,10 +52,13 @@ loop-less c = omega arith
 
 loop-again : tie.Need-loop-again Inv-loop μ-loop
 loop-again c =
-    below-more _ _ (c .before .before .before .loop .inv) (sym (c .before .path-ok .ensures) ∙ not-false _ (c .if1 .left))
+    let inv = c .before .before .before .before .loop .inv in
+    let e = inv .0 in
+    let next = c .before .before .«record» .ensures .next in
+    (omega arith, below-more _ _ (inv .1) (sym (tested (c .before)) ∙ not-false _ (c .if1 .left)))
 
 returns-2 : tie.Need-returns-2 Inv-loop μ-loop
-returns-2 c = λ k l. c .before .loop .inv k (omega arith)
+returns-2 c = λ k l. c .before .loop .inv .1 k (omega arith)
 
 pub lowest-path-spec : {M : Type 1} → statement M
 lowest-path-spec =
@@ -44,7 +66,10 @@ lowest-path-spec =
     (tie.spec
     Inv-loop
     μ-loop
+    mul-at
+    add-at
     loop-holds
+    record-requires
     path-ok-requires
     returns
     add-p

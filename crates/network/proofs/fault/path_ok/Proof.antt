@@ -1,47 +1,26 @@
--- `network::fault::path_ok` meets its contract: the tests of a path's fields, joined.
+-- `network::fault::path_ok` meets its contract: the tests of a path's fields, joined. What a record holds fits.
 use borrow.Author.Needs.{needs}
+use mir.Facts.{toZ-ofZ}
+use mir.Syntax.{w32}
+use mir.Val.{SFits}
 use Rattle.network.proofs.Joined.{path-joined}
 use Rattle.network.proofs.fault.path_ok.Statement.{statement}
 use Rattle.network.proofs.fault.path_ok.Tie as tie
 
-add-at : tie.Need-add-at
-add-at c = search needs
-
-mul-at : tie.Need-mul-at
-mul-at c = search needs
-
-add-at-2 : tie.Need-add-at-2
-add-at-2 c = search needs
-
-marked-requires : tie.Need-marked-requires
-marked-requires c κs = search needs
-
-add-named : tie.Need-add-named
-add-named c = search needs
+both-requires : tie.Need-both-requires
+both-requires c κs = search needs
 
 named-requires : tie.Need-named-requires
 named-requires c κs = search needs
 
-add-named-2 : tie.Need-add-named-2
-add-named-2 c = search needs
-
 named-requires-2 : tie.Need-named-requires-2
 named-requires-2 c κs = search needs
-
-add-from-zero : tie.Need-add-from-zero
-add-from-zero c = search needs
 
 from-zero-requires : tie.Need-from-zero-requires
 from-zero-requires c κs = search needs
 
-add-rising : tie.Need-add-rising
-add-rising c = search needs
-
-add-rising-2 : tie.Need-add-rising-2
-add-rising-2 c = search needs
-
-rising-requires : tie.Need-rising-requires
-rising-requires c κs = search needs
+within-requires : tie.Need-within-requires
+within-requires c κs = search needs
 
 all3-requires : tie.Need-all3-requires
 all3-requires c κs = search needs
@@ -51,13 +30,17 @@ all3-requires-2 c κs = search needs
 
 returns : tie.Need-returns
 returns c =
-    path-joined _ _ _
-    (c .before .before .before .before .before .before .before .before .pre .0)
-    (c .before .before .before .before .before .before .marked .ensures)
-    (c .before .before .before .before .before .named .ensures)
-    (c .before .before .before .before .named2 .ensures)
-    (c .before .before .before .from-zero .ensures)
-    (c .before .before .rising .ensures)
+    let r = c .before .before .before .before .before .before .before .before .before .before .before .before .before .before .args .r in
+    let a : SFits w32 (r .first) = search needs in
+    let b : SFits w32 (r .second) = search needs in
+    let d : SFits w32 (r .third) = search needs in
+    let e : SFits w32 (r .fourth) = search needs in
+    λ f p n s. path-joined f _ p r n s
+    (c .before .before .before .before .before .before .before .before .before .before .before .both .ensures)
+    (rw (toZ-ofZ a) at (c .before .before .before .before .before .before .before .before .before .named .ensures))
+    (rw (toZ-ofZ b) at (c .before .before .before .before .before .before .before .named2 .ensures))
+    (rw (toZ-ofZ d) at (c .before .before .before .before .before .from-zero .ensures))
+    (rw (toZ-ofZ d, toZ-ofZ e) at (c .before .before .within .ensures))
     (c .before .all3 .ensures)
     (c .all32 .ensures)
 
@@ -65,19 +48,11 @@ pub path-ok-spec : {M : Type 1} → statement M
 path-ok-spec =
     tie.close
     (tie.spec
-    add-at
-    mul-at
-    add-at-2
-    marked-requires
-    add-named
+    both-requires
     named-requires
-    add-named-2
     named-requires-2
-    add-from-zero
     from-zero-requires
-    add-rising
-    add-rising-2
-    rising-requires
+    within-requires
     all3-requires
     all3-requires-2
     returns)

@@ -1,69 +1,53 @@
--- `network::fault::register_ok` meets its contract: the tests of a register's fields, joined.
+-- `network::fault::register_ok` meets its contract: the tests of a register's fields, joined. What a record holds fits.
 use borrow.Author.Needs.{needs}
+use mir.Facts.{toZ-ofZ}
+use mir.Syntax.{w32}
+use mir.Val.{SFits}
 use Rattle.network.proofs.Joined.{register-joined}
 use Rattle.network.proofs.fault.register_ok.Statement.{statement}
 use Rattle.network.proofs.fault.register_ok.Tie as tie
 
-mul-at : tie.Need-mul-at
-mul-at c = search needs
+both-requires : tie.Need-both-requires
+both-requires c κs = search needs
 
-add-at : tie.Need-add-at
-add-at c = search needs
+within-requires : tie.Need-within-requires
+within-requires c κs = search needs
 
-marked-requires : tie.Need-marked-requires
-marked-requires c κs = search needs
+within-requires-2 : tie.Need-within-requires-2
+within-requires-2 c κs = search needs
 
-add-within-at : tie.Need-add-within-at
-add-within-at c = search needs
-
-within-at-requires : tie.Need-within-at-requires
-within-at-requires c κs = search needs
-
-add-within-at-2 : tie.Need-add-within-at-2
-add-within-at-2 c = search needs
-
-within-at-requires-2 : tie.Need-within-at-requires-2
-within-at-requires-2 c κs = search needs
-
-add-windowed-at : tie.Need-add-windowed-at
-add-windowed-at c = search needs
-
-add-windowed-at-2 : tie.Need-add-windowed-at-2
-add-windowed-at-2 c = search needs
-
-windowed-at-requires : tie.Need-windowed-at-requires
-windowed-at-requires c κs = search needs
+windowed-requires : tie.Need-windowed-requires
+windowed-requires c κs = search needs
 
 all3-requires : tie.Need-all3-requires
 all3-requires c κs = search needs
 
-both-requires : tie.Need-both-requires
-both-requires c κs = search needs
+both-requires-2 : tie.Need-both-requires-2
+both-requires-2 c κs = search needs
 
 returns : tie.Need-returns
 returns c =
-    register-joined _ _
-    (c .before .before .before .before .before .marked .ensures)
-    (c .before .before .before .before .within-at .ensures)
-    (c .before .before .before .within-at2 .ensures)
-    (c .before .before .windowed-at .ensures)
+    let r = c .before .before .before .before .before .before .before .before .before .before .before .before .args .r in
+    let a : SFits w32 (r .first) = search needs in
+    let b : SFits w32 (r .second) = search needs in
+    let d : SFits w32 (r .third) = search needs in
+    let e : SFits w32 (r .fourth) = search needs in
+    λ f s. register-joined f _ r s
+    (c .before .before .before .before .before .before .before .before .before .both .ensures)
+    (rw (toZ-ofZ a) at (c .before .before .before .before .before .before .before .within .ensures))
+    (rw (toZ-ofZ b) at (c .before .before .before .before .before .within2 .ensures))
+    (rw (toZ-ofZ d, toZ-ofZ e) at (c .before .before .windowed .ensures))
     (c .before .all3 .ensures)
-    (c .both .ensures)
+    (c .both2 .ensures)
 
 pub register-ok-spec : {M : Type 1} → statement M
 register-ok-spec =
     tie.close
     (tie.spec
-    mul-at
-    add-at
-    marked-requires
-    add-within-at
-    within-at-requires
-    add-within-at-2
-    within-at-requires-2
-    add-windowed-at
-    add-windowed-at-2
-    windowed-at-requires
-    all3-requires
     both-requires
+    within-requires
+    within-requires-2
+    windowed-requires
+    all3-requires
+    both-requires-2
     returns)

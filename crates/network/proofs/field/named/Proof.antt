@@ -1,10 +1,9 @@
 -- `network::field::named` meets its contract: the last of at most 256 registers has a number that fits.
 use mathlib.Core.Path.{_∙_, refl}
 use borrow.Author.Needs.{needs}
-use mir.Val.{SFits}
-use mir.Syntax.{w32}
+use mir.Facts.{toZ-ofZ}
 use Rattle.network.proofs.Counts.{small-read, last-fits, last-read}
-use Rattle.network.proofs.Tests.{read-is, within-same}
+use Rattle.network.proofs.Tests.{within-same}
 use Rattle.network.proofs.field.named.Statement.{statement}
 use Rattle.network.proofs.field.named.Tie as tie
 
@@ -13,20 +12,16 @@ cast-within c = search needs
 
 sub-within : tie.Need-sub-within
 sub-within c =
-    let h = c .before .pre .1 in
+    let h = c .pre in
     rw (small-read _ h) (last-fits _ h)
-
-number-requires : tie.Need-number-requires
-number-requires c κs = search needs
 
 within-requires : tie.Need-within-requires
 within-requires c κs = search needs
 
 returns : tie.Need-returns
 returns c =
-    let h = c .before .before .before .pre .1 in
-    let g : SFits w32 (c .before .number .result) = search needs in
-    c .within .ensures ∙ within-same refl (last-read _ h) (read-is g (c .before .number .ensures))
+    let h = c .before .pre in
+    c .within .ensures ∙ within-same refl (last-read _ h) (toZ-ofZ (c .before .fits .z))
 
 pub named-spec : {M : Type 1} → statement M
-named-spec = tie.close (tie.spec cast-within sub-within number-requires within-requires returns)
+named-spec = tie.close (tie.spec cast-within sub-within within-requires returns)

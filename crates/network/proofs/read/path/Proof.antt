@@ -1,5 +1,5 @@
--- `network::read::path` meets its contract: the path's record lies within the file, as `inside` says, and each number fits.
-use mathlib.Core.Path.{_∙_}
+-- `network::read::path` meets its contract: the path's record lies within the file, as `inside` says, and its numbers are the fields.
+use mathlib.Core.Path.{ap, _∙_}
 use Prim.Native.Nat.{_+_, _*_, _≤_}
 use native.Mathlib.Omega.{arith}
 use denote.Ref.{now}
@@ -8,7 +8,7 @@ use borrow.Author.Needs.{needs}
 use mir.Facts.{toZ-ofZ}
 use mir.Val.{SFits}
 use mir.Syntax.{w32}
-use Rattle.paper.specs.File.{networkOf}
+use Rattle.paper.specs.File.{natural, networkOf}
 use Rattle.network.proofs.Places.{path-inside}
 use Rattle.network.proofs.read.path.Statement.{statement}
 use Rattle.network.proofs.read.path.Tie as tie
@@ -16,72 +16,55 @@ use Rattle.network.proofs.read.path.Tie as tie
 inside : (c : tie.Start) → 22 + 18 * (c .args .n + c .args .p) + 18 ≤ length (now (c .args .file))
 inside c = path-inside _ (c .pre .0) _ _ (c .pre .1) (c .pre .2)
 
-add-at : tie.Need-add-at
-add-at c = let l = inside (c .before) in omega arith
+add-record : tie.Need-add-record
+add-record c = let l = inside (c .before) in omega arith
 
-mul-at : tie.Need-mul-at
-mul-at c = let l = inside (c .before) in omega arith
+mul-record : tie.Need-mul-record
+mul-record c = let l = inside (c .before) in omega arith
 
-add-at-2 : tie.Need-add-at-2
-add-at-2 c = let l = inside (c .before) in omega arith
+add-record-2 : tie.Need-add-record-2
+add-record-2 c = let l = inside (c .before) in omega arith
 
-add-count : tie.Need-add-count
-add-count c = let l = inside (c .before) in omega arith
+record-requires : tie.Need-record-requires
+record-requires c κs = let l = inside (c .before) in omega arith
 
-count-requires : tie.Need-count-requires
-count-requires c κs = let l = inside (c .before) in omega arith
+natural-requires : tie.Need-natural-requires
+natural-requires c κs = search needs
 
-add-count-2 : tie.Need-add-count-2
-add-count-2 c = let l = inside (c .before .before) in omega arith
-
-count-requires-2 : tie.Need-count-requires-2
-count-requires-2 c κs = let l = inside (c .before .before) in omega arith
-
-add-number : tie.Need-add-number
-add-number c = let l = inside (c .before .before .before) in omega arith
+natural-requires-2 : tie.Need-natural-requires-2
+natural-requires-2 c κs = search needs
 
 number-requires : tie.Need-number-requires
-number-requires c κs = let l = inside (c .before .before .before) in omega arith
-
-add-number-2 : tie.Need-add-number-2
-add-number-2 c = let l = inside (c .before .before .before .before) in omega arith
-
-number-requires-2 : tie.Need-number-requires-2
-number-requires-2 c κs = let l = inside (c .before .before .before .before) in omega arith
-
-number-requires-3 : tie.Need-number-requires-3
-number-requires-3 c κs = let l = inside (c .before .before .before .before .before) in omega arith
+number-requires c κs = let l = inside (c .before .before .before .before .before .before .before .before) in omega arith
 
 returns : tie.Need-returns
 unfolding networkOf
 returns c =
-    let e = c .before .before .before .before .before .before .pre .1 in
-    let f : SFits w32 (c .before .before .number .result) = search needs in
-    let g : SFits w32 (c .before .number2 .result) = search needs in
-    let h : SFits w32 (c .number3 .result) = search needs in
+    let e = c .before .before .before .before .before .before .before .before .before .pre .1 in
+    let r = c .before .before .before .before .before .before .before .«record» in
+    let a : SFits w32 (r .result .first) = search needs in
+    let b : SFits w32 (r .result .second) = search needs in
+    let f : SFits w32 (r .result .third) = search needs in
+    let g : SFits w32 (r .result .fourth) = search needs in
+    let h : SFits w32 (c .number .result) = search needs in
     rw (← e)
     (record {
-      from = c .before .before .before .before .count .ensures;
-      to = c .before .before .before .count2 .ensures;
-      dmin = toZ-ofZ f ∙ c .before .before .number .ensures;
-      dmax = toZ-ofZ g ∙ c .before .number2 .ensures;
-      uncertainty = toZ-ofZ h ∙ c .number3 .ensures;
+      from = c .before .before .before .before .before .natural .ensures ∙ ap natural (toZ-ofZ a ∙ r .ensures .first);
+      to = c .before .before .before .natural2 .ensures ∙ ap natural (toZ-ofZ b ∙ r .ensures .second);
+      dmin = toZ-ofZ f ∙ r .ensures .third;
+      dmax = toZ-ofZ g ∙ r .ensures .fourth;
+      uncertainty = toZ-ofZ h ∙ c .number .ensures;
     })
 
 pub path-spec : {M : Type 1} → statement M
 path-spec =
     tie.close
     (tie.spec
-    add-at
-    mul-at
-    add-at-2
-    add-count
-    count-requires
-    add-count-2
-    count-requires-2
-    add-number
+    add-record
+    mul-record
+    add-record-2
+    record-requires
+    natural-requires
+    natural-requires-2
     number-requires
-    add-number-2
-    number-requires-2
-    number-requires-3
     returns)

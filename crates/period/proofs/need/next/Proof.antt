@@ -14,8 +14,7 @@ use mir.Val.{SFits, toZ, ofZ}
 use mir.Facts.{toZ-ofZ}
 use Rattle.whole.specs.Sums.{total}
 use Rattle.whole.specs.Rounding.{roundUp}
-use Rattle.loops.specs.Arrows.{Arrows, amount}
-use Rattle.rounds.specs.Shape.{arrows}
+use Rattle.loops.specs.Arrows.{Arrows, arrows, amount}
 use Rattle.period.specs.Late.{late}
 use Rattle.period.proofs.LateLaws.{late-most}
 use Rattle.period.proofs.Sums.{all-taken}

@@ -6,15 +6,12 @@ use mir.Syntax.{w32}
 use mir.Val.{SFits}
 use mir.Facts.{toZ-ofZ}
 use Rattle.whole.proofs.Lin.{lin}
-use Rattle.loops.specs.Arrows.{amount}
+use Rattle.loops.specs.Arrows.{arrows, amount}
 use Prim.Native.Nat.{_-_}
 use native.Mathlib.Omega.{arith}
-use Rattle.rounds.specs.Shape.{arrows}
 use Rattle.rounds.proofs.Firsts.{Written, written-host, written-more, written-all}
 use Rattle.rounds.proofs.relax.first.Statement.{statement}
 use Rattle.rounds.proofs.relax.first.Tie as tie
-use Rattle.rounds.proofs.relax.first.Reads as reads
-use Rattle.rounds.proofs.relax.first.Lts as lts
 
 abbrev Inv-loop : tie.InvT-loop
 Inv-loop tail head amount n m a₀ p₀ v₀ a p v = Written (arrows n m tail head amount) a p v
@@ -26,63 +23,48 @@ abbrev μ-loop : tie.MeasureT-loop
 low : (c : tie.In-loop Inv-loop μ-loop) → c .before .loop .v - 1 < c .before .before .args .m
 low c = c .before .before .pre .1 .0 .window _ (c .before .loop .inv .some) (c .loop-test .taken) .low-exists
 
--- src/relax.rt:37:5
 slice-set-of-a : tie.Need-slice-set-of-a Inv-loop μ-loop
 slice-set-of-a c = omega (arith, c .pre .0 .sound .some, c .pre .1 .1 .0)
 
--- src/relax.rt:38:5
 slice-write-p : tie.Need-slice-write-p Inv-loop μ-loop
 slice-write-p c = omega (arith, c .pre .0 .sound .some, c .pre .1 .1 .1)
 
--- src/relax.rt:40:5
 loop-holds : tie.Need-loop-holds Inv-loop μ-loop
 loop-holds c = written-host _ (c .pre .0) (now (c .args .a)) (now (c .args .p)) (c .pre .1 .1 .0) (c .pre .1 .1 .1)
 
--- src/relax.rt:41:23
 sub-a : tie.Need-sub-a Inv-loop μ-loop
 sub-a c = c .before .loop .inv .some
 
--- src/relax.rt:41:16
 mul-a : tie.Need-mul-a Inv-loop μ-loop
 mul-a c = let few = c .before .before .pre .0 .few in omega arith
 
--- src/relax.rt:41:16
 shared-slice-copy-out-a : tie.Need-shared-slice-copy-out-a Inv-loop μ-loop
 shared-slice-copy-out-a c = omega (arith, low c, c .before .before .pre .0 .amounts-long)
 
--- src/relax.rt:41:9
 mul-t16 : tie.Need-mul-t16 Inv-loop μ-loop
 mul-t16 c = let w = c .before .before .loop .inv in let few = c .before .before .before .pre .0 .few in omega arith
 
--- src/relax.rt:41:9
 slice-set-from-a : tie.Need-slice-set-from-a Inv-loop μ-loop
 slice-set-from-a c = let w = c .before .before .loop .inv in let few = c .before .before .before .pre .0 .few in omega (arith, w .row-long)
 
--- src/relax.rt:42:17
 sub-p : tie.Need-sub-p Inv-loop μ-loop
 sub-p c = c .before .before .loop .inv .some
 
--- src/relax.rt:42:16
 cast-p : tie.Need-cast-p Inv-loop μ-loop
 cast-p c = let w = c .before .before .loop .inv in let few = c .before .before .before .pre .0 .few in omega arith
 
--- src/relax.rt:42:9
 mul-p : tie.Need-mul-p Inv-loop μ-loop
 mul-p c = let w = c .before .before .loop .inv in let few = c .before .before .before .pre .0 .few in omega arith
 
--- src/relax.rt:42:9
 slice-write-p-2 : tie.Need-slice-write-p-2 Inv-loop μ-loop
 slice-write-p-2 c = let w = c .before .before .loop .inv in let few = c .before .before .before .pre .0 .few in omega (arith, w .preds-long)
 
--- src/relax.rt:43:9
 add-v : tie.Need-add-v Inv-loop μ-loop
 add-v c = let w = c .before .before .loop .inv in let few = c .before .before .before .pre .0 .few in omega arith
 
--- src/relax.rt:40:5
 loop-less : tie.Need-loop-less Inv-loop μ-loop
 loop-less c = let t = c .before .loop-test .taken in omega arith
 
--- src/relax.rt:40:5
 loop-again : tie.Need-loop-again Inv-loop μ-loop
 loop-again c =
     let k = c .before .before .before in
@@ -90,15 +72,12 @@ loop-again c =
     let f : SFits w32 (amount (arrows (k .args .n) (k .args .m) (now (k .args .tail)) (now (k .args .head)) (now (k .args .amount))) (c .before .before .loop .v - 1)) = omega lin in
     rw (toZ-ofZ f) (written-more _ (k .pre .0) _ _ _ (c .before .loop-test .taken) (c .before .before .loop .inv))
 
--- src/relax.rt:23:1
 same-length : tie.Need-same-length Inv-loop μ-loop
 same-length c = c .before .loop .inv .row-long ∙ sym (c .before .before .pre .1 .1 .0)
 
--- src/relax.rt:23:1
 same-length-2 : tie.Need-same-length-2 Inv-loop μ-loop
 same-length-2 c = c .before .loop .inv .preds-long ∙ sym (c .before .before .pre .1 .1 .1)
 
--- src/relax.rt:23:1
 returns : tie.Need-returns Inv-loop μ-loop
 returns c = written-all _ (c .before .before .pre .0) _ _ _ (c .loop-test .left) (c .before .loop .inv) (c .before .before .pre .1 .0)
 

@@ -4,31 +4,22 @@ use Rattle.rounds.proofs.Turns.{ready-row, after-rested, after-fair, af
 use borrow.Author.Needs.{needs}
 use Rattle.rounds.proofs.relax.turn.Statement.{statement}
 use Rattle.rounds.proofs.relax.turn.Tie as tie
-use Rattle.rounds.proofs.relax.turn.Reads as reads
-use Rattle.rounds.proofs.relax.turn.Lts as lts
-use Rattle.rounds.proofs.round.turn_round.Reads as turn-round-reads
-use Rattle.rounds.proofs.settle.settle.Reads as settle-reads
 
--- src/relax.rt:63:9
 turn-round-requires : tie.Need-turn-round-requires
 turn-round-requires c κs = let k = c .before .before .before .before .before in (k .pre .0, (ready-row _ (k .pre .0) _ _ (k .pre .1 .1 .1), k .pre .1 .1 .0, k .pre .1 .1 .1 .tight .forest .preds-length))
 
--- src/relax.rt:64:9
 same-length : tie.Need-same-length
 same-length c = search needs
 
--- src/relax.rt:64:9
 same-length-2 : tie.Need-same-length-2
 same-length-2 c = search needs
 
--- src/relax.rt:64:9
 returns : tie.Need-returns
 returns c =
     let k = c .before .before .before .before .before .before .before .before .before .before in
     let t = c .before .before .before .before .turn-round in
     after-rested _ (k .pre .0) _ _ (k .pre .1 .1 .1) _ _ _ (t .ensures) (not-true (t .result) (c .if1 .taken))
 
--- src/relax.rt:66:8
 settle-requires : tie.Need-settle-requires
 settle-requires c κs =
     let k = c .before .before .before .before .before .before .before .before .before .before .before .before in
@@ -41,15 +32,12 @@ settle-requires c κs =
       ),
     )
 
--- src/relax.rt:67:9
 same-length-3 : tie.Need-same-length-3
 same-length-3 c = search needs
 
--- src/relax.rt:67:9
 same-length-4 : tie.Need-same-length-4
 same-length-4 c = search needs
 
--- src/relax.rt:67:9
 returns-2 : tie.Need-returns-2
 returns-2 c =
     let k = c .before .before .before .before .before .before .before .before .before .before .before .before .before .before .before in
@@ -57,15 +45,12 @@ returns-2 c =
     let s = c .before .before .settle in
     after-settled _ (k .pre .0) _ _ (k .pre .1 .1 .1) _ _ _ (t .ensures) _ _ (k .pre .1 .0) (not-false (t .result) (c .before .before .before .before .before .if1 .left)) (s .ensures) (c .if2 .taken)
 
--- src/relax.rt:48:1
 same-length-5 : tie.Need-same-length-5
 same-length-5 c = search needs
 
--- src/relax.rt:48:1
 same-length-6 : tie.Need-same-length-6
 same-length-6 c = search needs
 
--- src/relax.rt:48:1
 returns-3 : tie.Need-returns-3
 returns-3 c =
     let k = c .before .before .before .before .before .before .before .before .before .before .before .before .before .before .before in

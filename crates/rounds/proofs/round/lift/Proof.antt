@@ -1,10 +1,10 @@
 -- `rounds::round::lift` meets its contract: where the head stands below the offer, the two stores are those of the model's step; where it
 -- does not, nothing changed. The offer fits, since the row's times and the amounts lie far within 32 bits.
 use borrow.Author.Needs.{needs}
-use mathlib.Core.Path.{_≡_, refl, _∙_, sym}
+use mathlib.Core.Path.{_≡_, sym}
 use Prim.Native.Nat.{_≤_, _<_, _+_}
 use native.Mathlib.Omega.{arith}
-use lib.ListN.{length, getD, length-set}
+use lib.ListN.{getD}
 use mathlib.Core.Bool.{true, false}
 use lib.Signed.{ltZ}
 use lib.IntN.{ℤ, pos, _+ℤ_}
@@ -15,13 +15,9 @@ use Rattle.rounds.proofs.Steps.{step-lifts, step-keeps}
 use mir.Facts.{toZ-ofZ}
 use Rattle.whole.proofs.Lin.{lin, plus}
 use Rattle.loops.specs.Arrows.{amount, tail, head}
-use Rattle.loops.specs.Model.{at, step, lift, offered}
-use Rattle.rounds.specs.Shape.{Shape, Row, arrows}
+use Rattle.loops.specs.Model.{at}
 use Rattle.rounds.proofs.round.lift.Statement.{statement}
 use Rattle.rounds.proofs.round.lift.Tie as tie
-use Rattle.rounds.proofs.round.lift.Reads as reads
-use Rattle.rounds.proofs.round.lift.Lts as lts
-use Rattle.rounds.proofs.round.offer.Reads as offer-reads
 
 tail-below : (k : tie.Start) → getD (now (k .args .tail)) (k .args .e) 0 < k .args .n
 tail-below k = k .pre .0 .sound .leaves (k .args .e) (k .pre .1 .0)
@@ -48,79 +44,60 @@ offer-is : (k : tie.Start) (z : ℤ) → z ≡ at (now (k .args .a)) (getD (now 
     → z ≡ at (now (k .args .a)) (getD (now (k .args .tail)) (k .args .e) 0) +ℤ getD (now (k .args .amount)) (k .args .e) (pos 0)
 offer-is k z h = rw (toZ-ofZ (amount-fits k)) at h
 
--- src/round.rt:41:13
 mul-t : tie.Need-mul-t
 mul-t c = search needs
 
--- src/round.rt:41:13
 shared-slice-read-t : tie.Need-shared-slice-read-t
 shared-slice-read-t c = search needs
 
--- src/round.rt:41:13
 cast-t : tie.Need-cast-t
 cast-t c = let k = c .before .before .before .before in omega (arith, tail-below k, few k)
 
--- src/round.rt:42:13
 mul-h : tie.Need-mul-h
 mul-h c = search needs
 
--- src/round.rt:42:13
 shared-slice-read-h : tie.Need-shared-slice-read-h
 shared-slice-read-h c = search needs
 
--- src/round.rt:42:13
 cast-h : tie.Need-cast-h
 cast-h c = let k = c .before .before .before .before .before in omega (arith, head-below k, few k)
 
--- src/round.rt:43:25
 mul-offer : tie.Need-mul-offer
 mul-offer c = search needs
 
--- src/round.rt:43:25
 shared-slice-copy-out-offer : tie.Need-shared-slice-copy-out-offer
 shared-slice-copy-out-offer c = search needs
 
--- src/round.rt:43:9
 offer-requires : tie.Need-offer-requires
 offer-requires c κs = let k = c .before .before .before .before .before .before in (omega (arith, tail-below k, k .pre .1 .1 .long), rw (toZ-ofZ (amount-fits k)) (offer-fits k))
 
--- src/round.rt:44:8
 mul-if1 : tie.Need-mul-if1
 mul-if1 c = let k = c .before .before .before .before .before .before .before in omega (arith, head-below k, few k)
 
--- src/round.rt:44:8
 slice-copy-out-if1 : tie.Need-slice-copy-out-if1
 slice-copy-out-if1 c = let k = c .before .before .before .before .before .before .before in omega (arith, head-below k, k .pre .1 .2)
 
--- src/round.rt:45:9
 mul-x : tie.Need-mul-x
 mul-x c = let k = c .before .before .before .before .before .before .before .before .before in omega (arith, head-below k, few k)
 
--- src/round.rt:45:9
 slice-set-from-x : tie.Need-slice-set-from-x
 slice-set-from-x c = let k = c .before .before .before .before .before .before .before .before .before in omega (arith, head-below k, k .pre .1 .2)
 
--- src/round.rt:46:16
 cast-p : tie.Need-cast-p
 cast-p c = search needs
 
--- src/round.rt:46:9
 mul-p : tie.Need-mul-p
 mul-p c = let k = c .before .before .before .before .before .before .before .before .before in omega (arith, head-below k, few k)
 
--- src/round.rt:46:9
 slice-write-p : tie.Need-slice-write-p
 slice-write-p c = let k = c .before .before .before .before .before .before .before .before .before in omega (arith, head-below k, k .pre .1 .3)
 
--- src/round.rt:47:9
 same-length : tie.Need-same-length
 same-length c = search needs
 
--- src/round.rt:47:9
 same-length-2 : tie.Need-same-length-2
 same-length-2 c = search needs
 
--- src/round.rt:47:9
 returns : tie.Need-returns
 returns c =
     let k = c .before .before .before .before .before .before .before .before .before in

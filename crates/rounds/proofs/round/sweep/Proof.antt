@@ -3,13 +3,10 @@ use borrow.Author.Needs.{needs}
 -- `rounds::round::sweep` meets its contract: after e arrows the row, the preds and the flag are those of the model's pass over e arrows.
 use Prim.Native.Nat.{_-_}
 use native.Mathlib.Omega.{arith}
-use Rattle.rounds.specs.Shape.{arrows}
+use Rattle.loops.specs.Arrows.{arrows}
 use Rattle.rounds.proofs.Steps.{Swept, swept-none, swept-more, swept-all}
 use Rattle.rounds.proofs.round.sweep.Statement.{statement}
 use Rattle.rounds.proofs.round.sweep.Tie as tie
-use Rattle.rounds.proofs.round.sweep.Reads as reads
-use Rattle.rounds.proofs.round.sweep.Lts as lts
-use Rattle.rounds.proofs.round.lift.Reads as lift-reads
 
 abbrev Inv-loop : tie.InvT-loop
 Inv-loop tail head amount n m a b₀ p₀ raised₀ e₀ b p raised e = Swept (arrows n m tail head amount) a b₀ p₀ b p raised e
@@ -17,40 +14,32 @@ Inv-loop tail head amount n m a b₀ p₀ raised₀ e₀ b p raised e = Swept (a
 abbrev μ-loop : tie.MeasureT-loop
 μ-loop tail head amount n m a b₀ p₀ raised₀ e₀ b p raised e = m - e
 
--- src/round.rt:69:5
 loop-holds : tie.Need-loop-holds Inv-loop μ-loop
 loop-holds c = let k = c .before .before .before in swept-none _ _ _ _ (k .pre .1 .1) (k .pre .1 .2)
 
--- src/round.rt:70:9
 lift-requires : tie.Need-lift-requires Inv-loop μ-loop
 lift-requires c κs =
     let k = c .before .before .before .before .before .before .before in
     let inv = c .before .before .before .loop .inv in
     (k .pre .0, (search needs, k .pre .1 .0, inv .row-long, inv .preds-long))
 
--- src/round.rt:71:9
 add-e : tie.Need-add-e Inv-loop μ-loop
 add-e c = omega arith
 
--- src/round.rt:69:5
 loop-less : tie.Need-loop-less Inv-loop μ-loop
 loop-less c = omega arith
 
--- src/round.rt:69:5
 loop-again : tie.Need-loop-again Inv-loop μ-loop
 loop-again c =
     let lift = c .before .before .before .lift in
     swept-more _ _ _ _ _ _ _ _ _ _ _ (c .before .before .before .before .before .before .loop-test .taken) (lift .kept .1 .1 .1 .1 .1 .1 .1 .0) (lift .kept .1 .1 .1 .1 .1 .1 .1 .1 .0) (lift .ensures) (c .before .before .before .before .before .before .before .loop .inv)
 
--- src/round.rt:53:1
 same-length : tie.Need-same-length Inv-loop μ-loop
 same-length c = let k = c .before .before .before .before .before in c .before .loop .inv .row-long ∙ sym (k .pre .1 .1)
 
--- src/round.rt:53:1
 same-length-2 : tie.Need-same-length-2 Inv-loop μ-loop
 same-length-2 c = let k = c .before .before .before .before .before in c .before .loop .inv .preds-long ∙ sym (k .pre .1 .2)
 
--- src/round.rt:53:1
 returns : tie.Need-returns Inv-loop μ-loop
 returns c = swept-all _ _ _ _ _ _ _ _ (c .loop-test .left) (c .before .loop .inv)
 

@@ -5,35 +5,27 @@ use mathlib.Core.Bool.{false}
 use lib.ListN.{length}
 use lib.IntN.{ℤ}
 use denote.Ref.{now}
+use Rattle.loops.specs.Arrows.{arrows}
 use Rattle.loops.specs.Model.{pass, round}
-use Rattle.rounds.specs.Shape.{arrows, turn}
+use Rattle.rounds.specs.Shape.{turn}
 use borrow.Author.Needs.{needs}
 use Rattle.rounds.proofs.round.turn_round.Statement.{statement}
 use Rattle.rounds.proofs.round.turn_round.Tie as tie
-use Rattle.rounds.proofs.round.turn_round.Reads as reads
-use Rattle.rounds.proofs.round.turn_round.Lts as lts
-use Rattle.rounds.proofs.round.copy.Reads as copy-reads
-use Rattle.rounds.proofs.round.sweep.Reads as sweep-reads
 
--- src/round.rt:102:5
 copy-requires : tie.Need-copy-requires
 copy-requires c κs = search needs
 
--- src/round.rt:103:5
 sweep-requires : tie.Need-sweep-requires
 sweep-requires c κs =
     let k = c .before .before .before .before .before .before .before .before in
     (k .pre .0, (k .pre .1 .0, ap length (c .before .before .before .copy .ensures) ∙ k .pre .1 .0 .long, k .pre .1 .2))
 
--- src/round.rt:88:1
 same-length : tie.Need-same-length
 same-length c = search needs
 
--- src/round.rt:88:1
 same-length-2 : tie.Need-same-length-2
 same-length-2 c = search needs
 
--- src/round.rt:88:1
 returns : tie.Need-returns
 unfolding round
 returns c =

@@ -5,8 +5,8 @@ use Prim.Native.Nat.{_-_}
 use native.Mathlib.Omega.{arith}
 use lib.ListN.{getD}
 use denote.Ref.{now}
-use Rattle.rounds.specs.Shape.{arrows}
-use Rattle.rounds.proofs.Rings.{Walked, walked-none, walked-root, walked-home, walked-low, walked-more, walked-all}
+use Rattle.loops.specs.Arrows.{arrows}
+use Rattle.rounds.proofs.Rings.{Walked, walked-none, walked-root, walked-home, walked-more, walked-all}
 use Rattle.rounds.proofs.search.around.Statement.{statement}
 use Rattle.rounds.proofs.search.around.Tie as tie
 
@@ -50,21 +50,16 @@ returns-2 c =
     let i = c .before .before .before .before in
     walked-home _ _ _ _ _ (i .loop-test .taken) (c .before .before .if1 .left) (c .if2 .taken) (i .before .loop .inv)
 
-returns-3 : tie.Need-returns-3 Inv-loop μ-loop
-returns-3 c =
-    let i = c .before .before .before .before .before in
-    walked-low _ _ _ _ _ (i .loop-test .taken) (c .before .before .before .if1 .left) (c .if3 .taken) (i .before .loop .inv)
-
 loop-less : tie.Need-loop-less Inv-loop μ-loop
 loop-less c = search needs
 
 loop-again : tie.Need-loop-again Inv-loop μ-loop
 loop-again c =
-    let i = c .before .before .before .before .before in
-    walked-more _ _ _ _ _ (i .before .before .pre .0 .sound) (i .loop-test .taken) (c .before .before .before .if1 .left) (c .before .if2 .left) (c .if3 .left) (i .before .loop .inv)
+    let i = c .before .before .before .before in
+    walked-more _ _ _ _ _ (i .before .before .pre .0 .sound) (i .loop-test .taken) (c .before .before .if1 .left) (c .if2 .left) (i .before .loop .inv)
 
-returns-4 : tie.Need-returns-4 Inv-loop μ-loop
-returns-4 c = walked-all _ _ _ _ _ (c .loop-test .left) (c .before .loop .inv)
+returns-3 : tie.Need-returns-3 Inv-loop μ-loop
+returns-3 c = walked-all _ _ _ _ _ (c .loop-test .left) (c .before .loop .inv)
 
 pub around-spec : {M : Type 1} → statement M
 around-spec =
@@ -82,7 +77,6 @@ around-spec =
     cast-v
     add-k
     returns-2
-    returns-3
     loop-less
     loop-again
-    returns-4)
+    returns-3)

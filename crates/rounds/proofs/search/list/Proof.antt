@@ -5,7 +5,7 @@ use Prim.Native.Nat.{_<_}
 use native.Mathlib.Omega.{arith}
 use lib.ListN.{getD}
 use denote.Ref.{now}
-use Rattle.rounds.specs.Shape.{arrows}
+use Rattle.loops.specs.Arrows.{arrows}
 use Rattle.rounds.proofs.Rings.{Written, written-none, written-below, written-arrow, written-more, written-all}
 use Rattle.rounds.proofs.search.list.Statement.{statement}
 use Rattle.rounds.proofs.search.list.Tie as tie

@@ -4,15 +4,10 @@ use mir.Facts.{toZ-ofZ}
 use borrow.Author.Needs.{needs}
 use Rattle.rounds.proofs.settle.earlier.Statement.{statement}
 use Rattle.rounds.proofs.settle.earlier.Tie as tie
-use Rattle.rounds.proofs.settle.earlier.Reads as reads
-use Rattle.rounds.proofs.settle.earlier.Lts as lts
-use Rattle.paper.proofs.Latency.before.Reads as before-reads
 
--- src/settle.rt:42:9
 before-requires : tie.Need-before-requires
 before-requires c κs = search needs
 
--- src/settle.rt:38:1
 returns : tie.Need-returns
 returns c =
     let k = c .before .before in

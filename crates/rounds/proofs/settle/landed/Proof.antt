@@ -2,22 +2,16 @@ use mir.Facts.{toZ-ofZ}
 use Rattle.whole.proofs.Machine.{widens}
 use Rattle.rounds.proofs.settle.landed.Statement.{statement}
 use Rattle.rounds.proofs.settle.landed.Tie as tie
-use Rattle.rounds.proofs.settle.landed.Reads as reads
-use Rattle.rounds.proofs.settle.landed.Lts as lts
 
--- src/settle.rt:35:6
 cast-result : tie.Need-cast-result
 cast-result c = rw (toZ-ofZ (c .fits .x)) (widens (c .fits .x))
 
--- src/settle.rt:35:6
 add-result : tie.Need-add-result
 add-result c = rw (toZ-ofZ (c .fits .x), toZ-ofZ (widens (c .fits .x)), toZ-ofZ (c .fits .sum)) (c .pre .0)
 
--- src/settle.rt:35:5
 cast-result-2 : tie.Need-cast-result-2
 cast-result-2 c = rw (toZ-ofZ (c .fits .x), toZ-ofZ (widens (c .fits .x)), toZ-ofZ (c .fits .sum), toZ-ofZ (c .pre .0)) (c .pre .1)
 
--- src/settle.rt:31:1
 returns : tie.Need-returns
 returns c = rw (toZ-ofZ (c .fits .x), toZ-ofZ (widens (c .fits .x)), toZ-ofZ (c .fits .sum), toZ-ofZ (c .pre .0)) (toZ-ofZ (c .pre .1))
 

@@ -1,28 +1,24 @@
 -- `rounds::settle::put` meets its contract: the walk's invariant says that the preds give the register it stands at the time in hand, so each
 -- register that it writes stands where its preds put it.
 use borrow.Author.Needs.{needs}
-use mathlib.Core.Path.{_≡_, _∙_, sym, ap}
-use Prim.Native.Nat.{suc, _-_, _<_, _≤_}
+use mathlib.Core.Path.{_∙_, sym, ap}
+use Prim.Native.Nat.{suc, _-_}
 use native.Mathlib.Omega.{arith}
-use lib.ListN.{length, getD, length-set}
-use lib.IntN.{ℤ, pos, _-ℤ_}
+use lib.ListN.{length-set}
+use lib.IntN.{_-ℤ_}
 use denote.Ref.{now}
-use mir.Syntax.{w32, w64}
-use mir.Val.{SFits, toZ, ofZ}
+use mir.Syntax.{w32}
+use mir.Val.{SFits, toZ}
 use mir.Facts.{toZ-ofZ}
 use Rattle.whole.proofs.Lin.{lin}
-use Rattle.loops.specs.Arrows.{Arrows, amount}
-use Rattle.loops.specs.Model.{at, pred}
-use Rattle.rounds.specs.Shape.{arrows, InRow}
-use Rattle.rounds.specs.Settling.{Gives}
+use Rattle.loops.specs.Arrows.{Arrows, arrows, amount}
+use Rattle.loops.specs.Model.{pred}
+use Rattle.rounds.specs.Shape.{InRow}
 use Rattle.rounds.proofs.Gives.{gives-is, gives-back}
 use Rattle.rounds.proofs.Walks.{row-fits}
 use Rattle.rounds.proofs.Puts.{Putting, putting-none, putting-more, put-root, put-met, put-end}
 use Rattle.rounds.proofs.settle.put.Statement.{statement}
 use Rattle.rounds.proofs.settle.put.Tie as tie
-use Rattle.rounds.proofs.settle.put.Reads as reads
-use Rattle.rounds.proofs.settle.put.Lts as lts
-use Rattle.rounds.proofs.settle.earlier.Reads as earlier-reads
 
 abbrev Inv-loop : tie.InvT-loop
 Inv-loop tail head amount n m p row₀ marks₀ s time v₀ z₀ k₀ row marks v z k = Putting (arrows n m tail head amount) p s marks₀ row marks v (toZ w32 z) k
@@ -43,97 +39,74 @@ next c =
     let k = c .before .before .before .before .before .before .before .before .before .before in
     k .pre .1 .1 .1 .0 _ _ (k .pre .0 .sound .leaves _ (c .if2 .left)) (gives-back _ _ _ _ (c .if2 .left) (c .before .before .before .before .before .loop .inv .gives))
 
--- src/settle.rt:114:5
 loop-holds : tie.Need-loop-holds Inv-loop μ-loop
 loop-holds c =
     let k = c .before .before .before .before in
     putting-none _ _ _ _ _ _ (k .pre .1 .0 .1) (k .pre .1 .1 .0) (gives-is _ _ (sym (toZ-ofZ (k .fits .time))) (k .pre .1 .1 .1 .1))
 
--- src/settle.rt:115:12
 slice-read-if1 : tie.Need-slice-read-if1 Inv-loop μ-loop
 slice-read-if1 c = let i = c .before .before .loop .inv in omega (arith, i .below, i .still .marks-long)
 
--- src/settle.rt:116:13
 same-length : tie.Need-same-length Inv-loop μ-loop
 same-length c = c .before .before .before .loop .inv .still .row-long ∙ sym (c .before .before .before .before .before .before .before .before .pre .1 .1 .0 .row-long)
 
--- src/settle.rt:116:13
 same-length-2 : tie.Need-same-length-2 Inv-loop μ-loop
 same-length-2 c = c .before .before .before .loop .inv .long
 
--- src/settle.rt:116:13
 returns : tie.Need-returns Inv-loop μ-loop
 returns c = put-met _ _ _ _ _ _ _ _ _ (c .before .before .before .loop .inv) _ (c .if1 .taken)
 
--- src/settle.rt:118:9
 mul-z : tie.Need-mul-z Inv-loop μ-loop
 mul-z c = omega (arith, c .before .before .before .loop .inv .below, c .before .before .before .before .before .before .before .before .pre .0 .few)
 
--- src/settle.rt:118:9
 slice-set-from-z : tie.Need-slice-set-from-z Inv-loop μ-loop
 slice-set-from-z c = let i = c .before .before .before .loop .inv in omega (arith, i .below, i .still .row-long)
 
--- src/settle.rt:119:9
 slice-write-marks : tie.Need-slice-write-marks Inv-loop μ-loop
 slice-write-marks c = let i = c .before .before .before .loop .inv in omega (arith, i .below, i .still .marks-long)
 
--- src/settle.rt:120:17
 mul-e : tie.Need-mul-e Inv-loop μ-loop
 mul-e c = omega (arith, c .before .before .before .loop .inv .below, c .before .before .before .before .before .before .before .before .pre .0 .few)
 
--- src/settle.rt:120:17
 shared-slice-read-e : tie.Need-shared-slice-read-e Inv-loop μ-loop
 shared-slice-read-e c = omega (arith, c .before .before .before .before .loop .inv .below, c .before .before .before .before .before .before .before .before .before .pre .1 .0 .0)
 
--- src/settle.rt:120:17
 cast-e : tie.Need-cast-e Inv-loop μ-loop
 cast-e c = omega (arith, c .shared-slice-known4 .given (c .before .before .before .before .loop .v))
 
--- src/settle.rt:122:13
 same-length-3 : tie.Need-same-length-3 Inv-loop μ-loop
 same-length-3 c = simp length-set (c .before .before .before .before .before .loop .inv .still .row-long ∙ sym (c .before .before .before .before .before .before .before .before .before .before .pre .1 .1 .0 .row-long))
 
--- src/settle.rt:122:13
 same-length-4 : tie.Need-same-length-4 Inv-loop μ-loop
 same-length-4 c = simp length-set (c .before .before .before .before .before .loop .inv .long)
 
--- src/settle.rt:122:13
 returns-2 : tie.Need-returns-2 Inv-loop μ-loop
 returns-2 c = put-root _ _ _ _ _ _ _ _ _ (c .before .before .before .before .before .loop .inv) _
 
--- src/settle.rt:124:24
 mul-earlier : tie.Need-mul-earlier Inv-loop μ-loop
 mul-earlier c = omega (arith, c .if2 .left, c .before .before .before .before .before .before .before .before .before .before .pre .0 .named)
 
--- src/settle.rt:124:24
 shared-slice-copy-out-earlier : tie.Need-shared-slice-copy-out-earlier Inv-loop μ-loop
 shared-slice-copy-out-earlier c = omega (arith, c .if2 .left, c .before .before .before .before .before .before .before .before .before .before .pre .0 .amounts-long)
 
--- src/settle.rt:124:9
 earlier-requires : tie.Need-earlier-requires Inv-loop μ-loop
 earlier-requires c κs = rw (toZ-ofZ (amount-fits (c .before))) (row-fits _ (next (c .before)))
 
--- src/settle.rt:125:13
 mul-v : tie.Need-mul-v Inv-loop μ-loop
 mul-v c = omega (arith, c .before .before .if2 .left, c .before .before .before .before .before .before .before .before .before .before .before .before .pre .0 .named)
 
--- src/settle.rt:125:13
 shared-slice-read-v : tie.Need-shared-slice-read-v Inv-loop μ-loop
 shared-slice-read-v c = omega (arith, c .before .before .before .if2 .left, c .before .before .before .before .before .before .before .before .before .before .before .before .before .pre .0 .tails-long)
 
--- src/settle.rt:125:13
 cast-v : tie.Need-cast-v Inv-loop μ-loop
 cast-v c = omega (arith, c .before .before .before .before .before .before .before .before .before .before .before .before .before .pre .0 .sound .leaves _ (c .before .before .before .if2 .left), c .before .before .before .before .before .before .before .before .before .before .before .before .before .pre .0 .few)
 
--- src/settle.rt:126:9
 add-k : tie.Need-add-k Inv-loop μ-loop
 add-k c = omega (arith, c .before .before .before .before .before .before .before .loop-test .taken, c .before .before .before .before .before .before .before .before .before .before .before .before .before .pre .0 .few)
 
--- src/settle.rt:114:5
 loop-less : tie.Need-loop-less Inv-loop μ-loop
 loop-less c = let t = c .before .before .before .before .before .before .before .loop-test .taken in omega arith
 
--- src/settle.rt:114:5
 loop-again : tie.Need-loop-again Inv-loop μ-loop
 loop-again c =
     let e = c .before .before .before in
@@ -141,15 +114,12 @@ loop-again c =
     let is = toZ-ofZ f ∙ c .before .earlier .ensures ∙ ap (λ w. toZ w32 (c .before .before .before .before .before .before .before .before .loop .z) -ℤ w) (toZ-ofZ (amount-fits e)) in
     rw is (putting-more _ _ _ _ _ _ _ _ _ (c .before .before .before .before .before .before .before .before .loop .inv) (c .before .before .before .before .before .before .before .before .before .before .before .before .before .pre .0) (c .before .before .before .before .before .before .before .loop-test .taken) (e .if2 .left))
 
--- src/settle.rt:92:1
 same-length-5 : tie.Need-same-length-5 Inv-loop μ-loop
 same-length-5 c = c .before .loop .inv .still .row-long ∙ sym (c .before .before .before .before .before .before .pre .1 .1 .0 .row-long)
 
--- src/settle.rt:92:1
 same-length-6 : tie.Need-same-length-6 Inv-loop μ-loop
 same-length-6 c = c .before .loop .inv .long
 
--- src/settle.rt:92:1
 returns-3 : tie.Need-returns-3 Inv-loop μ-loop
 returns-3 c = put-end _ _ _ _ _ _ _ _ _ (c .before .loop .inv) _ (c .loop-test .left)
 

@@ -2,23 +2,16 @@ use Rattle.rounds.proofs.Copies.{zeros}
 use borrow.Author.Needs.{needs}
 use Rattle.rounds.proofs.settle.settle.Statement.{statement}
 use Rattle.rounds.proofs.settle.settle.Tie as tie
-use Rattle.rounds.proofs.settle.settle.Reads as reads
-use Rattle.rounds.proofs.settle.settle.Lts as lts
-use Rattle.rounds.proofs.settle.settle_all.Reads as settle-all-reads
 
--- src/settle.rt:198:50
 slice-aggregate-settle-all : tie.Need-slice-aggregate-settle-all
 slice-aggregate-settle-all c = search needs
 
--- src/settle.rt:198:5
 settle-all-requires : tie.Need-settle-all-requires
 settle-all-requires c κs = let k = c .before .before .before .before .before in (k .pre .0, ((k .pre .1 .0 .0, k .pre .1 .0 .1, k .pre .0 .few, zeros 256), k .pre .1 .1))
 
--- src/settle.rt:183:1
 same-length : tie.Need-same-length
 same-length c = search needs
 
--- src/settle.rt:183:1
 returns : tie.Need-returns
 returns c = search needs
 

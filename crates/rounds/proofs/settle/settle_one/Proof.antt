@@ -1,5 +1,4 @@
-use mathlib.Core.Path.{_≡_, _∙_, sym, ap}
-use lib.ListN.{length}
+use mathlib.Core.Path.{sym}
 use Rattle.rounds.proofs.Settles.{walked-yes, walked-no}
 use Rattle.rounds.proofs.Gives.{gives-is}
 use mir.Facts.{toZ-ofZ}
@@ -8,16 +7,10 @@ use mir.Val.{SFits}
 use borrow.Author.Needs.{needs}
 use Rattle.rounds.proofs.settle.settle_one.Statement.{statement}
 use Rattle.rounds.proofs.settle.settle_one.Tie as tie
-use Rattle.rounds.proofs.settle.settle_one.Reads as reads
-use Rattle.rounds.proofs.settle.settle_one.Lts as lts
-use Rattle.rounds.proofs.settle.put.Reads as put-reads
-use Rattle.rounds.proofs.settle.reach.Reads as reach-reads
 
--- src/settle.rt:148:9
 reach-requires : tie.Need-reach-requires
 reach-requires c κs = search needs
 
--- src/settle.rt:150:9
 put-requires : tie.Need-put-requires
 put-requires c κs =
     let k = c .before .before .before .before .before .before .before .before .before .before .before in
@@ -26,27 +19,21 @@ put-requires c κs =
     let g = walked-yes _ _ _ _ _ (c .before .before .before .if1 .taken) (r .ensures) in
     (k .pre .0, (k .pre .1 .0, (k .pre .1 .1 .0, (k .pre .1 .1 .1, gives-is _ _ (sym (toZ-ofZ f)) g))))
 
--- src/settle.rt:151:9
 same-length : tie.Need-same-length
 same-length c = search needs
 
--- src/settle.rt:151:9
 same-length-2 : tie.Need-same-length-2
 same-length-2 c = search needs
 
--- src/settle.rt:151:9
 returns : tie.Need-returns
 returns c = search needs
 
--- src/settle.rt:131:1
 same-length-3 : tie.Need-same-length-3
 same-length-3 c = search needs
 
--- src/settle.rt:131:1
 same-length-4 : tie.Need-same-length-4
 same-length-4 c = search needs
 
--- src/settle.rt:131:1
 returns-2 : tie.Need-returns-2
 returns-2 c = walked-no _ _ _ _ _ (c .if1 .left) (c .before .reach .ensures)
 

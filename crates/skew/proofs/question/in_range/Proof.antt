@@ -13,29 +13,17 @@ within-requires-2 c κs = search needs
 within-requires-3 : tie.Need-within-requires-3
 within-requires-3 c κs = search needs
 
-both-requires : tie.Need-both-requires
-both-requires c κs = search needs
-
-both-requires-2 : tie.Need-both-requires-2
-both-requires-2 c κs = search needs
+all3-requires : tie.Need-all3-requires
+all3-requires c κs = search needs
 
 returns : tie.Need-returns
 returns c =
-    let start = c .before .before .before .before .before in
+    let start = c .before .before .before .before in
     numbers-joined (start .fits .period) (start .fits .tail) (start .fits .head)
-    (c .before .before .before .before .within .ensures)
-    (c .before .before .before .within2 .ensures)
-    (c .before .before .within3 .ensures)
-    (c .before .both .ensures)
-    (c .both2 .ensures)
+    (c .before .before .before .within .ensures)
+    (c .before .before .within2 .ensures)
+    (c .before .within3 .ensures)
+    (c .all3 .ensures)
 
 pub in-range-spec : {M : Type 1} → statement M
-in-range-spec =
-    tie.close
-    (tie.spec
-    within-requires
-    within-requires-2
-    within-requires-3
-    both-requires
-    both-requires-2
-    returns)
+in-range-spec = tie.close (tie.spec within-requires within-requires-2 within-requires-3 all3-requires returns)

@@ -1,9 +1,9 @@
 -- `skew::schedule::schedule` meets its contract: each way out is one of the laws of Results.
 use mathlib.Core.Path.{_≡_, sym, _∙_}
-use Prim.Native.Nat.{_≤_, _<_}
+use Prim.Native.Nat.{_≤_}
 use native.Mathlib.Omega.{arith}
 use denote.Ref.{now}
-use Rattle.paper.specs.File.{registers, networkOf}
+use Rattle.paper.specs.File.{registers}
 use Rattle.paper.specs.Refusals.{Accepted}
 use Rattle.paper.proofs.Legal.{accepted-legal}
 use Rattle.network.proofs.Verdicts.{judged-accepted}
@@ -12,11 +12,6 @@ use Rattle.skew.proofs.Results.{result-fault, result-room, result-solve
 use borrow.Author.Needs.{needs}
 use Rattle.skew.proofs.schedule.schedule.Statement.{statement}
 use Rattle.skew.proofs.schedule.schedule.Tie as tie
-use Rattle.skew.proofs.schedule.schedule.Reads as reads
-use Rattle.skew.proofs.schedule.schedule.Lts as lts
-use Rattle.network.proofs.judge.Reads as judge-reads
-use Rattle.network.proofs.read.header.Reads as header-reads
-use Rattle.period.proofs.solve.Reads as solve-reads
 
 accepted : (c : tie.After-enum-told) → Accepted (now (c .before .before .before .before .before .args .file))
 accepted c = judged-accepted _ _ (c .before .before .judge .ensures) (c .enum-told .given .1)
@@ -27,38 +22,30 @@ counted c = sym (registers-is (now (c .before .before .before .before .before .b
 few : (c : tie.After-header) → c .header .result .registers ≤ 256
 few c = let e = c .header .ensures .registers in let t = accepted-legal _ (accepted (c .before)) .registers-to in omega arith
 
--- src/schedule.rt:12:9
 judge-requires : tie.Need-judge-requires
 judge-requires c κs = search needs
 
--- src/schedule.rt:14:25
 enum-known-verdict : tie.Need-enum-known-verdict
 enum-known-verdict c = search needs
 
--- src/schedule.rt:16:17
 enum-told : tie.Need-enum-told
 enum-told c = search needs
 
--- src/schedule.rt:16:17
 header-requires : tie.Need-header-requires
 header-requires c κs = accepted c
 
--- src/schedule.rt:18:33
 mul-if1 : tie.Need-mul-if1
 mul-if1 c = omega (arith, few c)
 
--- src/schedule.rt:18:28
 add-if1 : tie.Need-add-if1
 add-if1 c = omega (arith, few c)
 
--- src/schedule.rt:19:17
 returns : tie.Need-returns
 returns c =
     let h = counted (c .before) in
     let t = c .if1 .taken in
     result-room _ _ (accepted (c .before .before)) (omega arith)
 
--- src/schedule.rt:21:13
 solve-requires : tie.Need-solve-requires
 solve-requires c κs =
     let h = counted (c .before .before) in
@@ -66,15 +53,12 @@ solve-requires c κs =
     let t = c .before .if1 .left in
     (accepted (c .before .before .before), omega arith)
 
--- src/schedule.rt:9:1
 returns-2 : tie.Need-returns-2
 returns-2 c = result-fault _ _ _ _ (c .before .before .before .judge .ensures) (c .before .verdict .given .1)
 
--- src/schedule.rt:9:1
 same-length : tie.Need-same-length
 same-length c = search needs
 
--- src/schedule.rt:9:1
 returns-3 : tie.Need-returns-3
 returns-3 c =
     let h = counted (c .before .before .before .before .before) in

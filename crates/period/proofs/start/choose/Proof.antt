@@ -1,0 +1,95 @@
+-- `period::start::choose` meets its contract: what is noted at a register is an arrow into it.
+use Prim.Native.Nat.{_-_, _<_}
+use lib.ListN.{getD}
+use denote.Ref.{now}
+use mathlib.Core.Logic.{⊎-elim}
+use native.Mathlib.Omega.{arith}
+use mathlib.Core.Path.{sym, _∙_}
+use Rattle.loops.specs.Arrows.{arrows}
+use Rattle.period.specs.Start.{Chosen}
+use Rattle.period.proofs.Guesses.{chosen-more}
+use Rattle.period.proofs.start.choose.Statement.{statement}
+use Rattle.period.proofs.start.choose.Tie as tie
+
+abbrev Inv-loop : tie.InvT-loop
+Inv-loop tail head amount n m from p₀ e₀ p e = Chosen (arrows n m tail head amount) p
+
+abbrev μ-loop : tie.MeasureT-loop
+μ-loop tail head amount n m from p₀ e₀ p e = m - e
+
+-- the arrow that is looked at leads into a register
+reached : (c : tie.In-loop Inv-loop μ-loop) → getD (now (c .before .before .before .before .before .args .head)) (c .before .loop .e) 0 < c .before .before .before .before .before .args .n
+reached c = c .before .before .before .before .before .pre .0 .sound .reaches _ (c .loop-test .taken)
+
+loop-holds : tie.Need-loop-holds Inv-loop μ-loop
+loop-holds c = c .before .before .before .pre .1
+
+mul-v : tie.Need-mul-v Inv-loop μ-loop
+mul-v c = omega (arith, c .before .before .before .before .before .pre .0 .named, c .loop-test .taken)
+
+shared-slice-read-v : tie.Need-shared-slice-read-v Inv-loop μ-loop
+shared-slice-read-v c = omega (arith, c .before .before .before .before .before .before .pre .0 .heads-long, c .before .loop-test .taken)
+
+cast-v : tie.Need-cast-v Inv-loop μ-loop
+cast-v c = omega (arith, c .shared-slice-known3 .given (c .before .before .loop .e))
+
+mul-old : tie.Need-mul-old Inv-loop μ-loop
+mul-old c = omega (arith, c .before .before .before .before .before .before .pre .0 .few, reached (c .before))
+
+slice-read-old : tie.Need-slice-read-old Inv-loop μ-loop
+slice-read-old c = omega (arith, c .before .before .before .loop .inv .long, reached (c .before .before))
+
+cast-old : tie.Need-cast-old Inv-loop μ-loop
+cast-old c = omega (arith, c .slice-known2 .given (getD (now (c .before .before .before .before .before .before .before .args .head)) (c .before .before .before .loop .e) 0))
+
+is-heavier-requires : tie.Need-is-heavier-requires Inv-loop μ-loop
+is-heavier-requires c κs = let k = c .before .before .before .before .before .before .before in (k .pre .0 .amounts-long, c .before .before .loop-test .taken)
+
+cast-p : tie.Need-cast-p Inv-loop μ-loop
+cast-p c = omega (arith, c .before .before .before .before .before .before .before .before .before .pre .0 .named, c .before .before .before .before .loop-test .taken)
+
+mul-p : tie.Need-mul-p Inv-loop μ-loop
+mul-p c = omega (arith, c .before .before .before .before .before .before .before .before .before .pre .0 .few, reached (c .before .before .before .before))
+
+slice-write-p : tie.Need-slice-write-p Inv-loop μ-loop
+slice-write-p c = omega (arith, c .before .before .before .before .before .loop .inv .long, reached (c .before .before .before .before))
+
+add-e : tie.Need-add-e Inv-loop μ-loop
+add-e c = omega (arith, c .before .before .before .before .before .before .before .before .before .pre .0 .named, c .before .before .before .before .loop-test .taken)
+
+loop-less : tie.Need-loop-less Inv-loop μ-loop
+loop-less c = omega (arith, c .before .before .before .before .loop-test .taken)
+
+loop-again : tie.Need-loop-again Inv-loop μ-loop
+loop-again c =
+    let i = c .before .before .before .before .before .loop .inv in
+    ⊎-elim (λ w. rw (w .1) (chosen-more _ _ _ (reached (c .before .before .before .before)) i)) (λ w. rw (w .1) i) (c .if1 .came)
+
+same-length : tie.Need-same-length Inv-loop μ-loop
+same-length c = c .before .loop .inv .long ∙ sym (c .before .before .before .before .before .pre .1 .long)
+
+returns : tie.Need-returns Inv-loop μ-loop
+returns c = c .before .loop .inv
+
+pub choose-spec : {M : Type 1} → statement M
+choose-spec =
+    tie.close
+    (tie.spec
+    Inv-loop
+    μ-loop
+    loop-holds
+    mul-v
+    shared-slice-read-v
+    cast-v
+    mul-old
+    slice-read-old
+    cast-old
+    is-heavier-requires
+    cast-p
+    mul-p
+    slice-write-p
+    add-e
+    loop-less
+    loop-again
+    same-length
+    returns)
