@@ -1,6 +1,6 @@
 // Pipelines and dense networks are drawn around a hidden schedule, so that their hold rules and windows can be met and the period decides.
-// Chains, rings, decoys and races hold one loop through every register: of setup rules with the host, without it, and without it among
-// heavier paths that make no loop; and of hold rules whose amounts add up to -1, 0 or 1, where 1 means refusal 8. Paths that cannot bind
+// Chains, rings, decoys and races hold one loop through every register: of setup rules with the host, without it, and beside heavier
+// paths that mislead; and of hold rules whose amounts add up to -1, 0 or 1, where 1 means refusal 8. Paths that cannot bind
 // fill the list.
 #include "make.hpp"
 
@@ -122,14 +122,18 @@ File setup_loop(Rng &rng, int n, size_t wanted, bool with_host) {
     return draft.file();
 }
 
-// A ring, and a heavier path from the host to each of its registers. Nothing leads back to the host, so the heaviest paths make no loop.
+// A ring, and beside it a register that has a heavier path to each on the ring and a light one back: the heaviest paths make a loop, but one
+// that needs less than the ring does, and less than many others.
 File decoy(Rng &rng, int n, size_t wanted) {
     Draft draft = open(rng, n, wanted);
-    const std::vector<int> around = order(rng, n, false);
+    std::vector<int> around = order(rng, n, false);
+    around.erase(std::find(around.begin(), around.end(), 1));
     for (size_t k = 0; k < around.size(); ++k)
         draft.paths.push_back({around[k], around[(k + 1) % around.size()], 500000, 500000 + rng.between(0, 500)});
-    for (int to : around) draft.paths.push_back({0, to, 500000, rng.between(550000, 600000)});
-    while (!draft.full()) draft.paths.push_back({rng.between(1, n - 1), rng.between(1, n - 1), 400000, rng.between(400000, 450000)});
+    for (int to : around) draft.paths.push_back({1, to, 500000, rng.between(550000, 600000)});
+    const auto any = [&] { return around[size_t(rng.between(0, int(around.size()) - 1))]; };
+    draft.paths.push_back({any(), 1, 0, rng.between(0, 1000)});
+    while (!draft.full()) draft.paths.push_back({any(), any(), 400000, rng.between(400000, 450000)});
     if (rng.between(0, 1)) rng.shuffle(draft.paths);
     return draft.file();
 }
