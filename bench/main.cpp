@@ -2,17 +2,15 @@
 //
 // Each program in turn solves all networks of a shape and size; this is repeated, and a program's time is that of its fastest turn. Turns
 // of different programs alternate, so that a slow spell of the machine meets them all. Outputs are checked before anything is timed.
-#include <algorithm>
-#include <chrono>
 #include <cmath>
 #include <cstdio>
 #include <cstdlib>
 
 #include <skew.h>
-#include "make.hpp"
 #include "plain.hpp"
 #include "rivals.hpp"
 #include "stack.hpp"
+#include "turns.hpp"
 
 namespace {
 
@@ -37,13 +35,12 @@ const std::vector<Program> programs{
 #endif
 };
 
-constexpr int kNetworks = 12; // of each shape and size
 constexpr double kBudget = 0.25; // seconds for each cell of the table, at the least 3 turns
-volatile uint64_t sink;
 
 struct Cell {
     std::string shape;
     int n, m;
+    size_t files;
     std::vector<double> ns; // for one network, by program
     Counts counts;
     size_t stack = 0;
@@ -51,10 +48,6 @@ struct Cell {
 
 std::vector<Cell> cells;
 size_t networks = 0, answered = 0, alike = 0;
-
-double now() {
-    return std::chrono::duration<double>(std::chrono::steady_clock::now().time_since_epoch()).count();
-}
 
 // Number, period and latencies must be the module's. Of the plain program, which takes the same steps, the loop is compared too.
 void check(const File &file, const std::string &what) {
@@ -64,10 +57,7 @@ void check(const File &file, const std::string &what) {
     for (size_t k = 1; k < programs.size(); ++k) {
         std::vector<uint8_t> out(8192, 0xee);
         const uint64_t other = programs[k].schedule(file.data(), file.size(), out.data(), out.size());
-        const bool same = other == result
-            && (result != 0 || (number_at(&out[2], 0) == number_at(&first[2], 0)
-                                && std::equal(&out[14], &out[14 + 6 * n], &first[14])));
-        if (!same) {
+        if (!agree(result, first, other, out, n)) {
             std::printf("%s: %s differs from the module (number %u and %u, period %d and %d)\n", what.c_str(), programs[k].name,
                 skew_number(other), skew_number(result), number_at(&out[2], 0), number_at(&first[2], 0));
             std::exit(1);
@@ -77,37 +67,22 @@ void check(const File &file, const std::string &what) {
     ++networks, answered += result == 0;
 }
 
-double turn(const Program &program, const std::vector<File> &files, int repeats) {
-    static uint8_t out[8192];
-    const double start = now();
-    for (int r = 0; r < repeats; ++r)
-        for (const File &file : files) sink = sink + program.schedule(file.data(), file.size(), out, sizeof out);
-    return (now() - start) / (double(repeats) * double(files.size()));
-}
-
-// Repeats that make a turn long enough for the clock: 0.2 ms.
-int repeats_for(const Program &program, const std::vector<File> &files) {
-    const double once = turn(program, files, 1) * double(files.size());
-    return std::max(1, int(0.0002 / once));
-}
-
-Cell measure(const std::string &shape, int n, int m, uint64_t seed) {
-    std::vector<File> files;
-    for (int k = 0; k < kNetworks; ++k) files.push_back(make(shape, n, m, seed * 1000003 + uint64_t(k)));
-    Cell cell{shape, n, number_at(files[0].data(), 6), std::vector<double>(programs.size(), 1e9), {}, 0};
+Cell measure(const Set &set) {
+    const std::vector<File> &files = set.files;
+    Cell cell{set.shape, set.n, set.m, files.size(), std::vector<double>(programs.size(), 1e9), {}, 0};
     for (const File &file : files) {
-        check(file, shape + " " + std::to_string(n));
+        check(file, set.shape + " " + std::to_string(set.n));
         cell.stack = std::max(cell.stack, stack_used(skew_schedule, file));
     }
     counts = Counts{};
-    turn(programs[1], files, 1);
+    turn(plain_schedule, files, 1);
     cell.counts = counts;
     std::vector<int> repeats;
-    for (const Program &program : programs) repeats.push_back(repeats_for(program, files));
+    for (const Program &program : programs) repeats.push_back(repeats_for(program.schedule, files));
     const double start = now();
     for (int t = 0; t < 3 || now() - start < kBudget; ++t)
         for (size_t k = 0; k < programs.size(); ++k)
-            cell.ns[k] = std::min(cell.ns[k], 1e9 * turn(programs[k], files, repeats[k]));
+            cell.ns[k] = std::min(cell.ns[k], 1e9 * turn(programs[k].schedule, files, repeats[k]));
     return cell;
 }
 
@@ -123,8 +98,8 @@ double ratio(const std::vector<double> &ns, size_t k) { return k == 1 ? ns[0] / 
 void print_cell(const Cell &cell) {
     std::printf("%-9s %4d %5d %11.0f", cell.shape.c_str(), cell.n, cell.m, cell.ns[0]);
     for (size_t k = 1; k < programs.size(); ++k) std::printf(" %8.2f", ratio(cell.ns, k));
-    std::printf(" %7.1f %7.1f %10.2f %8zu\n", double(cell.counts.rounds) / kNetworks, double(cell.counts.climbs) / kNetworks,
-        cell.ns[0] * kNetworks / double(cell.counts.offers), cell.stack);
+    std::printf(" %7.1f %7.1f %10.2f %8zu\n", double(cell.counts.rounds) / double(cell.files),
+        double(cell.counts.climbs) / double(cell.files), cell.ns[0] * double(cell.files) / double(cell.counts.offers), cell.stack);
 }
 
 void print_totals(const std::vector<Cell> &list, const char *what) {
@@ -165,26 +140,31 @@ void print_paths(uint64_t seed) {
     std::printf("\nby paths, at 256 registers\n");
     print_heading();
     for (const char *shape : {"pipeline", "chain"})
-        for (int m : {256, 512, 1024, 2048}) print_cell(measure(shape, 256, m, seed));
+        for (int m : {256, 512, 1024, 2048}) print_cell(measure(drawn(shape, 256, m, seed)));
 }
 
 } // namespace
 
+// The words are a seed and the folder of the real networks' files.
 int main(int count, char **words) {
     const uint64_t seed = count > 1 ? std::strtoull(words[1], nullptr, 10) : 1;
-    std::printf("seed %llu, %d networks of each shape and size. Under plain: module / plain. Under the others: theirs / module.\n"
-                "LEMON-r looks for a circle after each of LEMON's rounds. Rounds and climbs are means for one network; an offer is one\n"
-                "arrow looked at in one round.\n\n",
-        static_cast<unsigned long long>(seed), kNetworks);
+    std::printf("seed %llu. Under plain: module / plain. Under the others: theirs / module. LEMON-r looks for a circle after each of\n"
+                "LEMON's rounds. Rounds and climbs are means for one network; an offer is one arrow looked at in one round. Of real\n"
+                "circuits each row is one circuit.\n\n",
+        static_cast<unsigned long long>(seed));
     print_heading();
-    for (const std::string &shape : shapes())
-        for (int n : {16, 32, 64, 128, 256}) {
-            cells.push_back(measure(shape, n, 8 * n, seed));
-            print_cell(cells.back());
-            std::fflush(stdout);
-        }
+    std::vector<Set> sets = all_drawn(seed);
+    const size_t generated = sets.size();
+    for (Set &set : real_sets(count > 2 ? words[2] : "")) sets.push_back(std::move(set));
+    for (const Set &set : sets) {
+        cells.push_back(measure(set));
+        print_cell(cells.back());
+        std::fflush(stdout);
+    }
     std::printf("\n");
     for (const std::string &shape : shapes()) print_totals(of_shape(shape), shape.c_str());
+    print_totals({cells.begin(), cells.begin() + std::ptrdiff_t(generated)}, "generated");
+    if (generated < cells.size()) print_totals(of_shape("real"), "real");
     print_totals(cells, "of all");
     print_growth();
     print_paths(seed);

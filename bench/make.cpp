@@ -1,7 +1,7 @@
 // Pipelines and dense networks are drawn around a hidden schedule, so that their hold rules and windows can be met and the period decides.
 // Chains, rings, decoys and races hold one loop through every register: of setup rules with the host, without it, and beside heavier
-// paths that mislead; and of hold rules whose amounts add up to -1, 0 or 1, where 1 means refusal 8. Paths that cannot bind
-// fill the list.
+// paths that mislead; and of hold rules whose amounts add up to -1, 0 or 1, where 1 means refusal 8. Stairs are many loops, each of which
+// needs a little more than the one before. Paths that cannot bind fill the list, but not that of a bare chain or a bare race.
 #include "make.hpp"
 
 #include <algorithm>
@@ -138,6 +138,19 @@ File decoy(Rng &rng, int n, size_t wanted) {
     return draft.file();
 }
 
+// An eighth of the registers have paths to themselves, each heavier than that of the register before. Other paths lead to these registers
+// but none from them, so that the heaviest paths into the others show nothing of the stairs; and a search that takes the first loop it
+// meets climbs them one by one.
+File stairs(Rng &rng, int n, size_t wanted) {
+    Draft draft = open(rng, n, wanted);
+    const int steps = n / 8;
+    for (int step = 1, delay = 500000; step <= steps; ++step, delay += rng.between(1, 500))
+        draft.paths.push_back({step, step, 400000, delay});
+    while (!draft.full()) draft.paths.push_back({rng.between(steps + 1, n - 1), draft.any(), 400000, rng.between(400000, 450000)});
+    if (rng.between(0, 1)) rng.shuffle(draft.paths);
+    return draft.file();
+}
+
 File race(Rng &rng, int n, size_t wanted) {
     Draft draft = open(rng, n, wanted);
     const std::vector<int> around = order(rng, n, rng.between(0, 1));
@@ -160,7 +173,7 @@ File race(Rng &rng, int n, size_t wanted) {
 } // namespace
 
 const std::vector<std::string> &shapes() {
-    static const std::vector<std::string> all{"pipeline", "dense", "chain", "race", "ring", "decoy"};
+    static const std::vector<std::string> all{"pipeline", "dense", "chain", "race", "ring", "decoy", "stairs", "barechain", "barerace"};
     return all;
 }
 
@@ -172,6 +185,9 @@ File make(const std::string &shape, int n, int paths, uint64_t seed) {
     if (shape == "chain") return setup_loop(rng, n, wanted, true);
     if (shape == "ring") return setup_loop(rng, n, wanted, false);
     if (shape == "decoy") return decoy(rng, n, wanted);
+    if (shape == "stairs") return stairs(rng, n, wanted);
     if (shape == "race") return race(rng, n, wanted);
+    if (shape == "barechain") return setup_loop(rng, n, 0, true);
+    if (shape == "barerace") return race(rng, n, 0);
     throw std::invalid_argument("no shape " + shape);
 }

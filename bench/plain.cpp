@@ -13,6 +13,7 @@ Counts counts;
 namespace {
 
 constexpr uint16_t kNone = 65535;
+constexpr uint64_t kMany = 24; // rounds of the look after which the first row is kept
 
 // Arrows in the order low, high, hold, setup: those that know no period are a prefix.
 struct Memory {
@@ -21,12 +22,16 @@ struct Memory {
     int32_t amount[4608], base[2048];
     int32_t a[256], b[256];
     uint16_t pred[256], ring[256];
+    int32_t row[256]; // kept with its preds: every trial of a period goes on from it
+    uint16_t preds[256];
+    size_t passed; // how many of the first arrows it meets
     size_t fixed() const { return 2 * (n - 1) + m; }
 };
 
 struct Relaxed {
     const int32_t *row; // the least schedule, where there are no entries
     size_t entries;     // of the contradicting loop in `ring`
+    uint64_t rounds;
 };
 
 void fill(const uint8_t *file, Memory &g) {
@@ -47,10 +52,10 @@ void fill(const uint8_t *file, Memory &g) {
     }
 }
 
-bool turn_round(const Memory &g, size_t arrows, const int32_t *a, int32_t *b, uint16_t *pred) {
+bool turn_round(const Memory &g, size_t first, size_t arrows, const int32_t *a, int32_t *b, uint16_t *pred) {
     std::memcpy(b, a, g.n * sizeof *a);
     bool raised = false;
-    for (size_t e = 0; e < arrows; ++e) {
+    for (size_t e = first; e < arrows; ++e) {
         const int32_t offer = a[g.tail[e]] + g.amount[e];
         if (b[g.head[e]] < offer) {
             b[g.head[e]] = offer;
@@ -65,6 +70,12 @@ bool turn_round(const Memory &g, size_t arrows, const int32_t *a, int32_t *b, ui
 size_t settle(const Memory &g, int32_t *row) {
     uint8_t settled[256] = {};
     for (size_t s = 0; s < g.n; ++s) {
+        const size_t e = g.pred[s];
+        if (e != kNone && settled[g.tail[e]]) { // one step back is all for most registers
+            row[s] = row[g.tail[e]] + g.amount[e];
+            settled[s] = 1;
+            continue;
+        }
         size_t v = s, steps = 0;
         int64_t sum = 0;
         while (!settled[v] && g.pred[v] != kNone) {
@@ -103,16 +114,20 @@ size_t list_circle(Memory &g, size_t s) {
     return entries;
 }
 
-Relaxed relax(Memory &g, size_t arrows) {
+void first_row(const Memory &g, int32_t *row, uint16_t *pred) {
+    row[0] = 0, pred[0] = kNone;
+    for (size_t v = 1; v < g.n; ++v) row[v] = g.amount[v - 1], pred[v] = uint16_t(v - 1);
+}
+
+// Relaxes from the row in g.a, which meets the arrows below `first`.
+Relaxed relax(Memory &g, size_t first, size_t arrows) {
     ++counts.relaxations;
-    g.a[0] = 0, g.pred[0] = kNone;
-    for (size_t v = 1; v < g.n; ++v) g.a[v] = g.amount[v - 1], g.pred[v] = uint16_t(v - 1);
     int32_t *from = g.a, *to = g.b;
-    for (;;) {
-        ++counts.rounds, counts.offers += arrows;
-        if (!turn_round(g, arrows, from, to, g.pred)) return {to, 0};
+    for (uint64_t rounds = 1;; ++rounds, first = 0) {
+        ++counts.rounds, counts.offers += arrows - first;
+        if (!turn_round(g, first, arrows, from, to, g.pred)) return {to, 0, rounds};
         const size_t stray = settle(g, to);
-        if (stray < g.n) return {to, list_circle(g, stray)};
+        if (stray < g.n) return {to, list_circle(g, stray), rounds};
         std::swap(from, to);
     }
 }
@@ -172,7 +187,9 @@ uint64_t climb(Memory &g, int32_t floor, int32_t ceiling, uint8_t *out) {
     counts.climbs += kept > 0;
     for (int32_t period = kept ? std::min(need(g, floor, kept), ceiling) : floor;;) {
         at_period(g, period);
-        const Relaxed found = relax(g, g.fixed() + g.m);
+        std::memcpy(g.a, g.row, g.n * sizeof *g.a);
+        std::memcpy(g.pred, g.preds, g.n * sizeof *g.pred);
+        const Relaxed found = relax(g, g.passed, g.fixed() + g.m);
         if (!found.entries) {
             put_answer(out, g, period, found.row, g.n, kept);
             return 0;
@@ -195,10 +212,14 @@ uint64_t plain_schedule(const uint8_t *file, size_t size, uint8_t *out, size_t r
     Memory g;
     g.n = size_t(number_at(file, 2)), g.m = size_t(number_at(file, 6));
     fill(file, g);
-    const Relaxed free = relax(g, g.fixed());
+    first_row(g, g.a, g.pred);
+    const Relaxed free = relax(g, 0, g.fixed());
     if (free.entries) {
         put_answer(out, g, 0, nullptr, 0, free.entries);
         return refusal(8);
     }
+    g.passed = free.rounds > kMany ? 0 : g.fixed();
+    if (g.passed == 0) first_row(g, g.row, g.preds);
+    else std::memcpy(g.row, free.row, g.n * sizeof *g.row), std::memcpy(g.preds, g.pred, g.n * sizeof *g.preds);
     return climb(g, number_at(file, 10), number_at(file, 14), out);
 }

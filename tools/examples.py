@@ -1,11 +1,11 @@
 #!/usr/bin/env python3
-"""Writes the example networks, as text and as network files, to a folder.
+"""Writes the example networks to a folder.
 
-    examples.py FOLDER
-
-a         network A, worked by hand in the paper
-d         network D, worked by hand in the paper
-pipeline  a pipeline of 40 registers with feedback, drawn from a fixed seed
+    examples.py FOLDER         as text and as network files:
+                               a         network A, worked by hand in the paper
+                               d         network D, worked by hand in the paper
+                               pipeline  a pipeline of 40 registers with feedback, drawn from a fixed seed
+    examples.py real FOLDER    the networks of real circuits, as network files; their texts are stored in examples/real
 """
 
 import random
@@ -34,6 +34,7 @@ path 0 1 5 10
 path 1 0 5 5
 """
 
+REAL = Path(__file__).resolve().parent.parent / "examples" / "real"
 STAGES = 40
 PATHS = 120
 
@@ -83,8 +84,27 @@ def write(folder):
         (folder / f"{name}.net").write_bytes(network.make(text))
 
 
-if __name__ == "__main__":
-    if len(sys.argv) != 2:
+def real_texts():
+    return {path.stem: path.read_text() for path in sorted(REAL.glob("*.txt"))}
+
+
+def write_real(folder):
+    folder = Path(folder)
+    folder.mkdir(parents=True, exist_ok=True)
+    for name, text in real_texts().items():
+        (folder / f"{name}.net").write_bytes(network.make(text))
+
+
+def main(words):
+    if len(words) == 1 and words != ["real"]:
+        write(words[0])
+    elif len(words) == 2 and words[0] == "real":
+        write_real(words[1])
+    else:
         print(__doc__, file=sys.stderr, end="")
-        sys.exit(2)
-    write(sys.argv[1])
+        return 2
+    return 0
+
+
+if __name__ == "__main__":
+    sys.exit(main(sys.argv[1:]))

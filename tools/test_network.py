@@ -124,7 +124,8 @@ class Commands(unittest.TestCase):
         self.assertIn(b"line 1: 1 words where 7 are due", fault.stderr)
         self.assertEqual(run("network.py", "show", data=b"NW").returncode, 1)
         self.assertEqual(run("network.py").returncode, 2)
-        self.assertEqual(run("examples.py").returncode, 2)
+        for words in ([], ["real"], ["a", "b"]):
+            self.assertEqual(run("examples.py", *words).returncode, 2)
 
 
 def arrows(data, period):

@@ -8,7 +8,7 @@ use second::answer::answer;
 use second::gen::{shapes, Source};
 use second::judge::{as_it_should_be, judge, try_programs};
 use second::listing::listing;
-use second::wire::Request;
+use second::wire::{Request, ROOM_MOST};
 use second::wrong::Slip;
 
 fn main() -> ExitCode {
@@ -28,6 +28,7 @@ fn main() -> ExitCode {
 fn run(words: &[&str]) -> io::Result<bool> {
     match words {
         ["solve"] => solve(),
+        ["ask", "files", files @ ..] => ask_files(files),
         ["ask", seed, count] => ask(number(seed)?, number(count)?, "mix"),
         ["ask", seed, count, shape] => ask(number(seed)?, number(count)?, shape),
         ["judge", requests, answers] => judge_files(requests, answers),
@@ -41,7 +42,8 @@ fn run(words: &[&str]) -> io::Result<bool> {
 fn usage() -> Error {
     let slips = Slip::ALL.map(Slip::name).join(" ");
     let text = format!(
-        "usage:\n  second solve < FILE\n  second ask SEED COUNT [SHAPE] > REQUESTS\n  second judge REQUESTS ANSWERS\n  \
+        "usage:\n  second solve < FILE\n  second ask SEED COUNT [SHAPE] > REQUESTS\n  \
+         second ask files FILE.. > REQUESTS\n  second judge REQUESTS ANSWERS\n  \
          second answer < REQUESTS > ANSWERS\n  second wrong NAME < REQUESTS > ANSWERS\n  second wrongs SEED COUNT\n\
          shapes: {}\nnames: {slips}",
         shapes().join(" ")
@@ -65,6 +67,16 @@ fn ask(seed: u64, count: u64, shape: &str) -> io::Result<bool> {
     let mut out = BufWriter::new(io::stdout().lock());
     for _ in 0..count {
         source.request().write(&mut out)?;
+    }
+    out.flush()?;
+    Ok(true)
+}
+
+/// Each file as a request to solve it, with room for any answer.
+fn ask_files(files: &[&str]) -> io::Result<bool> {
+    let mut out = BufWriter::new(io::stdout().lock());
+    for name in files {
+        Request::Solve { room: ROOM_MOST, file: std::fs::read(name)? }.write(&mut out)?;
     }
     out.flush()?;
     Ok(true)

@@ -54,6 +54,22 @@ fn a_stream_asked_answered_and_judged_is_clean() {
 }
 
 #[test]
+fn files_are_asked_for_one_after_the_other() {
+    let cases = worked_cases();
+    let names: Vec<String> =
+        cases.iter().map(|case| stored(&format!("{}.net", case.name), &case.draft.file())).collect();
+    let words: Vec<&str> = ["ask", "files"].into_iter().chain(names.iter().map(String::as_str)).collect();
+    let requests = second(&words, b"").stdout;
+    let mut rest = &requests[..];
+    for case in &cases {
+        let due = Request::Solve { room: ROOM_MOST, file: case.draft.file() };
+        assert_eq!(Request::read(&mut rest).unwrap(), Some(due), "{}", case.name);
+    }
+    assert!(rest.is_empty());
+    assert_eq!(second(&["ask", "files", "no such file"], b"").status.code(), Some(2));
+}
+
+#[test]
 fn answers_cut_short_or_too_long_fail() {
     let requests = second(&["ask", "6", "50", "tiny"], b"").stdout;
     let answers = second(&["answer"], &requests).stdout;

@@ -1,7 +1,5 @@
--- Laws of the answer's bytes. For callers: Callers, and `listed` of Entries.
+-- Laws of the answer's bytes. Callers need none of them.
 pub mod Written
-pub mod Rules
 pub mod Latencies
 pub mod Entries
 pub mod Fronts
-pub mod Callers

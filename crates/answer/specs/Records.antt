@@ -1,9 +1,15 @@
--- The records over whole numbers, as the code has them: at numbers that are not negative they are the paper's records.
+-- The records over whole numbers, as the code has them: at numbers that are not negative they are the paper's records. And what stands in
+-- the output after an answer.
+use mathlib.Core.Path.{_≡_}
 use mathlib.Core.List.{List, _∷_, _++_}
-use Prim.Native.Nat.{ℕ, _+_, _-_, _*_, _≤_, _<_}
-use lib.IntN.{ℤ}
-use lib.ListN.{length, getD}
+use Prim.Native.Nat.{ℕ, _≤_, _<_}
+use lib.IntN.{ℤ, pos}
+use lib.ListN.{length, getD, take}
 use Rattle.whole.specs.Four.{four}
+use Rattle.paper.specs.Chains.{All}
+use Rattle.paper.specs.Rules.{Rule}
+use Rattle.paper.specs.Output.{Front, skewRecord, latencyRecords, entryRecords}
+use Rattle.loops.specs.Model.{at}
 
 abbrev pub skewBytes : ℤ → ℤ → ℤ → List ℕ
 skewBytes period latencies entries = 83 ∷ 75 ∷ (four period ++ four latencies ++ four entries)
@@ -11,17 +17,20 @@ skewBytes period latencies entries = 83 ∷ 75 ∷ (four period ++ four latencie
 abbrev pub entryBytes : ℤ → ℤ → List ℕ
 entryBytes kind number = 69 ∷ 68 ∷ (four kind ++ four number)
 
--- e is the place of a rule of a network with n registers and m paths, within the limits of a file
-pub record Placed (n m e : ℕ) : Type 0 where
-  pub some : 1 ≤ n
-  pub few-registers : n ≤ 256
-  pub few-paths : m ≤ 2048
-  pub place : e < 2 * (n - 1) + 2 * m
+-- a kind and a number stand at place e
+pub record Placed (kinds numbers : List ℕ) (e : ℕ) : Type 0 where
+  pub has-kind : e < length kinds
+  pub has-number : e < length numbers
+  pub is-kind : getD kinds e 0 < 4
 
 -- the first entries of the list are such places
-pub record Listed (n m : ℕ) (ring : List ℕ) (entries : ℕ) : Type 0 where
-  pub some : 1 ≤ n
-  pub few-registers : n ≤ 256
-  pub few-paths : m ≤ 2048
+pub record Listed (kinds numbers ring : List ℕ) (entries : ℕ) : Type 0 where
   pub enough : entries ≤ length ring
-  pub places : (j : ℕ) → j < entries → getD ring j 0 < 2 * (n - 1) + 2 * m
+  pub few : entries ≤ 256
+  pub places : All (Placed kinds numbers) (take entries ring)
+
+-- the period P, the latencies of all n registers and the loop, as the paper's `Answered` has them
+abbrev pub AnswerBytes : ℤ → List ℤ → List Rule → List ℕ → List ℕ → Type 0
+AnswerBytes period row loop before after =
+    (P n : ℕ) → period ≡ pos P → length row ≡ n
+    → Front (skewRecord P n (length loop) ++ latencyRecords (at row) n ++ entryRecords loop) before after

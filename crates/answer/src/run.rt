@@ -2,22 +2,19 @@
 ghost use mathlib.Core.Path.{_≡_};
 ghost use mathlib.Core.List.{map};
 ghost use Prim.Native.Nat.{_+_, _*_, _≤_};
-ghost use lib.IntN.{pos};
-ghost use lib.ListN.{length, getD, take};
+ghost use lib.ListN.{length, take};
 ghost use lib.Seq.{sets};
-ghost use Rattle.paper.specs.Network.{Network};
 ghost use Rattle.paper.specs.Output.{latencyRecords, entryRecords};
-ghost use Rattle.loops.specs.Layout.{ruleAt};
+ghost use Rattle.loops.specs.Model.{at};
+ghost use Rattle.loops.specs.Names.{named};
 ghost use Rattle.answer.specs.Records.{Listed};
 use crate::record::put_entry;
 use crate::record::put_latency;
-use crate::rule::kind_at;
-use crate::rule::number_at;
 
 // The latencies stand behind the answer's first record, which takes 14 bytes.
 pub fn put_latencies(out: &mut [u8], row: &[i32], n: usize)
     requires { ⌜ (length (now row) ≡ n) × (14 + 6 * n ≤ length (now out)) × (n ≤ 256) ⌝ }
-    ensures { λ _. ⌜ now (out .exit) ≡ sets (now (out .entry)) 14 (latencyRecords (λ i. getD (now (row .entry)) i (pos 0)) n) ⌝ }
+    ensures { λ _. ⌜ now (out .exit) ≡ sets (now (out .entry)) 14 (latencyRecords (at (now (row .entry))) n) ⌝ }
 {
     let mut i = 0;
     while i < n {
@@ -27,15 +24,21 @@ pub fn put_latencies(out: &mut [u8], row: &[i32], n: usize)
 }
 
 // The loop is given as places of arrows; each entry names the rule that stands at its place.
-pub fn put_entries(out: &mut [u8], at: usize, n: usize, m: usize, ring: &[u16], entries: usize)
-    requires { ⌜ (Listed n m (now ring) entries) × (at + 10 * entries ≤ length (now out)) ⌝ }
-    ensures { λ _. ⌜ ((N : Network) → N .registers ≡ n → N .paths ≡ m
-        → now (out .exit) ≡ sets (now (out .entry)) at (entryRecords (map (ruleAt N) (take entries (now (ring .entry)))))) ⌝ }
+pub fn put_entries(
+    out: &mut [u8],
+    at: usize,
+    kind: &[u8],
+    number: &[u16],
+    ring: &[u16],
+    entries: usize,
+)
+    requires { ⌜ (Listed (now kind) (now number) (now ring) entries) × (at + 10 * entries ≤ length (now out)) ⌝ }
+    ensures { λ _. ⌜ now (out .exit) ≡ sets (now (out .entry)) at (entryRecords (map (named (now (kind .entry)) (now (number .entry))) (take entries (now (ring .entry))))) ⌝ }
 {
     let mut j = 0;
     while j < entries {
         let e = ring[j] as usize;
-        put_entry(out, at + 10 * j, kind_at(n, m, e), number_at(n, m, e));
+        put_entry(out, at + 10 * j, kind[e] as i32, number[e] as i32);
         j += 1;
     }
 }

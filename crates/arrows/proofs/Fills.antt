@@ -1,204 +1,217 @@
--- Filling, register by register and then path by path: each turn writes its rules, and what stood before stands.
-use mathlib.Core.Path.{_≡_, sym, ap, _∙_}
+-- Filling, register by register and then path by path: each turn writes its rules, and what stood before stands. At the end every place has
+-- its rule.
+use mathlib.Core.Path.{_≡_, sym, ap, _∙_, subst}
 use mathlib.Core.List.{List}
 use Prim.Native.Nat.{ℕ, _+_, _-_, _*_, _≤_, _<_}
 use native.Mathlib.Omega.{arith}
 use native.Mathlib.Decide.{ℕ-discrete}
 use lib.ListN.{length, getD, set, length-set}
 use lib.Seq.{getD-set-same, getD-set-other}
-use lib.IntN.{ℤ, pos, negℤ, _+ℤ_, _-ℤ_}
+use lib.IntN.{ℤ, pos}
 use Rattle.paper.specs.Network.{Network}
-use Rattle.paper.specs.Rules.{Rule, Setup, Hold, Low, High, Exists, base}
-use Rattle.paper.proofs.Legal.{Legal}
-use Rattle.network.specs.declared.Register.{Register}
-use Rattle.network.specs.declared.Path.{Path}
-use Rattle.network.specs.Records.{IsRegister, IsPath}
-use Rattle.loops.specs.Layout.{windows, fixedCount, ruleCount, ruleAt, placeOf}
-use Rattle.loops.proofs.Places.{rule-cases, rule-exists}
-use Rattle.arrows.specs.Filled.{Room, Filled}
-use Rattle.arrows.specs.Filling.{Put, Joins, Stands, Windows, Paths}
-use Rattle.arrows.proofs.Puts.{PutRule, room-put, stands-new, stands-put, joins-put, joins-new, joins-kept, stands-joined}
+use Rattle.paper.specs.Rules.{Rule, Setup, Hold, Low, High, Exists, kind, number, tail, head, base}
+use Rattle.loops.specs.Family.{Graph, Row, fixedGraph}
+use Rattle.loops.specs.RuleFamily.{graphOf, rules}
+use Rattle.loops.specs.Names.{ruleOf}
+use Rattle.loops.specs.Layout.{windows, fixedCount, ruleCount, ruleAt, placeOf, lowPlace, highPlace, holdPlace, setupPlace}
+use Rattle.loops.proofs.Names.{rule-of}
+use Rattle.loops.proofs.Places.{rule-cases, rule-exists, place-rule, place-below, rules-row, fixed-row}
+use Rattle.arrows.specs.Filled.{Lists, ruleIn, Room, Filled}
+use Rattle.arrows.specs.Filling.{written, Stands, Weighs, Windows, Paths}
+use Rattle.arrows.proofs.Puts.{with-rule, with-amount, room-rule, room-amount, stands-new, stands-kept, weighs-new, weighs-kept}
 
--- the counts and the room as the code has them
-pub record Inside (n m : ℕ) (tails heads : List ℕ) (amounts : List ℤ) : Type 0 where
-  pub some : 1 ≤ n
-  pub few : n ≤ 256
-  pub paths-few : m ≤ 2048
-  pub in-tails : 2 * (n - 1) + 2 * m ≤ length tails
-  pub in-heads : 2 * (n - 1) + 2 * m ≤ length heads
-  pub in-amounts : 2 * (n - 1) + 2 * m ≤ length amounts
+-- a rule that does not know the period, with its name, ends and amount
+abbrev Whole : Network → Lists → List ℤ → Rule → Type 0
+Whole N L amounts r = Stands N L r × Weighs N amounts r
 
-pub inside : (N : Network) (n m : ℕ) {tails heads : List ℕ} {amounts : List ℤ} → Legal N → n ≡ N .registers → m ≡ N .paths → Room N tails heads amounts
-    → Inside n m tails heads amounts
-inside N n m legal e g room =
-    let a = legal .registers-from in
-    let b = legal .registers-to in
-    let c = legal .paths-to in
-    record {
-      some = omega arith;
-      few = omega arith;
-      paths-few = omega arith;
-      in-tails = omega (arith, room .in-tails);
-      in-heads = omega (arith, room .in-heads);
-      in-amounts = omega (arith, room .in-amounts);
-    }
+module _ (N : Network) (L : Lists) (amounts bases : List ℤ) (room : Room N L amounts bases) (r : Rule) (x : Exists N r) where
+  whole-new : Whole N (with-rule N L r) (with-amount N amounts r) r
+  whole-new = (stands-new N L amounts bases room r x, weighs-new N L amounts bases room r x)
+
+  whole-kept : (s : Rule) → Exists N s → Whole N L amounts s → Whole N (with-rule N L r) (with-amount N amounts r) s
+  whole-kept s y h = (stands-kept N L amounts bases room r x s y (h .0), weighs-kept N L amounts bases room r x s y (h .1))
+
+  room-whole : Room N (with-rule N L r) (with-amount N amounts r) bases
+  room-whole = room-amount N (with-rule N L r) amounts bases (room-rule N L amounts bases room r x) r x
 
 -- ---- the windows
 
-pub windows-none : (N : Network) (tails heads : List ℕ) (amounts : List ℤ) → Room N tails heads amounts → Windows N tails heads amounts 1
-windows-none N tails heads amounts room =
+pub windows-none : (N : Network) (L : Lists) (amounts bases : List ℤ) → Room N L amounts bases → Windows N L amounts bases 1
+windows-none N L amounts bases room =
     record { room = room; some = omega arith; low = λ i a b. absurd (omega arith); high = λ i a b. absurd (omega arith) }
 
-module _ (N : Network) {tails heads : List ℕ} {amounts : List ℤ} {tails' heads' : List ℕ} {amounts' : List ℤ} {tails'' heads'' : List ℕ} {amounts'' : List ℤ}
-    (i : ℕ) (l : i < N .registers) (w : Windows N tails heads amounts i)
-    (first : PutRule N tails heads amounts (Low i) tails' heads' amounts') (second : PutRule N tails' heads' amounts' (High i) tails'' heads'' amounts'') where
+module _ (N : Network) (L : Lists) (amounts bases : List ℤ) (i : ℕ) (l : i < N .registers) (w : Windows N L amounts bases i) where
   exists : (0 < i) × (i < N .registers)
   exists = (w .some, l)
 
-  room' : Room N tails' heads' amounts'
-  room' = room-put N (w .room) (Low i) exists first
+  -- after the low rule, and after the high rule
+  abbrev L₁ : Lists
+  L₁ = with-rule N L (Low i)
 
-  keep : (s : Rule) → Exists N s → Stands N tails heads amounts s → Stands N tails'' heads'' amounts'' s
-  keep s y h = stands-put N room' (High i) exists second s y (stands-put N (w .room) (Low i) exists first s y h)
+  abbrev amounts₁ : List ℤ
+  amounts₁ = with-amount N amounts (Low i)
 
-  windows-put : Windows N tails'' heads'' amounts'' (i + 1)
-  windows-put =
-      let some = w .some in
-      record {
-        room = room-put N room' (High i) exists second;
-        some = omega arith;
-        low = λ j a b. at-low j a b (ℕ-discrete j i);
-        high = λ j a b. at-high j a b (ℕ-discrete j i);
-      }
+  room₁ : Room N L₁ amounts₁ bases
+  room₁ = room-whole N L amounts bases (w .room) (Low i) exists
+
+  keep : (s : Rule) → Exists N s → Whole N L amounts s → Whole N (with-rule N L₁ (High i)) (with-amount N amounts₁ (High i)) s
+  keep s y h = whole-kept N L₁ amounts₁ bases room₁ (High i) exists s y (whole-kept N L amounts bases (w .room) (Low i) exists s y h)
+
+  pub windows-more : Windows N (with-rule N L₁ (High i)) (with-amount N amounts₁ (High i)) bases (i + 1)
+  windows-more = record {
+    room = room-whole N L₁ amounts₁ bases room₁ (High i) exists;
+    some = omega arith;
+    low = λ j a b. at-low j a b (ℕ-discrete j i);
+    high = λ j a b. at-high j a b (ℕ-discrete j i);
+  }
     where
-      at-low : (j : ℕ) → 0 < j → j < i + 1 → Dec (j ≡ i) → Stands N tails'' heads'' amounts'' (Low j)
-      at-low j a b (yes e) = rw e (stands-put N room' (High i) exists second (Low i) exists (stands-new N (w .room) (Low i) exists first))
+      at-low : (j : ℕ) → 0 < j → j < i + 1 → Dec (j ≡ i) → Whole N (with-rule N L₁ (High i)) (with-amount N amounts₁ (High i)) (Low j)
+      at-low j a b (yes e) =
+          subst (λ k. Whole N (with-rule N L₁ (High i)) (with-amount N amounts₁ (High i)) (Low k)) (sym e)
+          (whole-kept N L₁ amounts₁ bases room₁ (High i) exists (Low i) exists (whole-new N L amounts bases (w .room) (Low i) exists))
       at-low j a b (no e) = keep (Low j) (a, omega arith) (w .low j a (omega arith))
 
-      at-high : (j : ℕ) → 0 < j → j < i + 1 → Dec (j ≡ i) → Stands N tails'' heads'' amounts'' (High j)
-      at-high j a b (yes e) = rw e (stands-new N room' (High i) exists second)
+      at-high : (j : ℕ) → 0 < j → j < i + 1 → Dec (j ≡ i) → Whole N (with-rule N L₁ (High i)) (with-amount N amounts₁ (High i)) (High j)
+      at-high j a b (yes e) =
+          subst (λ k. Whole N (with-rule N L₁ (High i)) (with-amount N amounts₁ (High i)) (High k)) (sym e)
+          (whole-new N L₁ amounts₁ bases room₁ (High i) exists)
       at-high j a b (no e) = keep (High j) (a, omega arith) (w .high j a (omega arith))
 
--- as the code has the two places and the two amounts
-pub windows-more : (N : Network) {tails heads : List ℕ} {amounts : List ℤ} {tails' heads' : List ℕ} {amounts' : List ℤ} {tails'' heads'' : List ℕ} {amounts'' : List ℤ}
-    (n i : ℕ) {low high : ℤ} → n ≡ N .registers → i < n → Windows N tails heads amounts i
-    → low ≡ N .low i → Put tails heads amounts (i - 1) 0 i low tails' heads' amounts'
-    → high ≡ negℤ (N .high i) → Put tails' heads' amounts' (n - 1 + (i - 1)) i 0 high tails'' heads'' amounts''
-    → Windows N tails'' heads'' amounts'' (i + 1)
-windows-more N n i e l w a p b q = windows-put N i (omega arith) w (rw a at p) (rw (e, b) at q)
+-- as the code has the two places, the two amounts, and the lists after each step
+pub windows-put : (N : Network) (n i : ℕ) {L L₁ L₂ : Lists} {amounts bases low-put high-put : List ℤ} {early late : ℤ} {e g : ℕ}
+    → n ≡ N .registers → i < n → Windows N L amounts bases i
+    → e ≡ lowPlace i → L₁ ≡ written L e 2 i 0 i → early ≡ base N (Low i) → low-put ≡ set amounts e early
+    → g ≡ highPlace n i → L₂ ≡ written L₁ g 3 i i 0 → late ≡ base N (High i) → high-put ≡ set low-put g late
+    → Windows N L₂ high-put bases (i + 1)
+windows-put N n i {L} {L₁} {L₂} {amounts} {bases} en l w ee el ea em ge gl ga gm =
+    rw (gm, gl, ge, ga, em, el, ee, ea, en) (windows-more N L amounts bases i (omega arith) w)
 
 -- ---- the paths
 
-pub paths-none : (N : Network) (tails heads : List ℕ) (amounts bases : List ℤ) (n : ℕ) → n ≡ N .registers → N .paths ≤ length bases
-    → Windows N tails heads amounts n → Paths N tails heads amounts bases 0
-paths-none N tails heads amounts bases n e long w =
-    record {
-      windows = rw e at w;
-      in-bases = long;
-      hold = λ p h. absurd (omega arith);
-      setup = λ p h. absurd (omega arith);
-      based = λ p h. absurd (omega arith);
-    }
+pub paths-none : (N : Network) (L : Lists) (amounts bases : List ℤ) (n : ℕ) → n ≡ N .registers → Windows N L amounts bases n → Paths N L amounts bases 0
+paths-none N L amounts bases n e w =
+    record { windows = rw e at w; hold = λ p h. absurd (omega arith); setup = λ p h. absurd (omega arith); based = λ p h. absurd (omega arith) }
 
-module _ (N : Network) {tails heads : List ℕ} {amounts bases : List ℤ} {tails' heads' : List ℕ} {amounts' : List ℤ}
-    (p : ℕ) (l : p < N .paths) (w : Paths N tails heads amounts bases p)
-    (first : PutRule N tails heads amounts (Hold p) tails' heads' amounts') where
-  path-room : Room N tails' heads' amounts'
-  path-room = room-put N (w .windows .room) (Hold p) l first
+module _ (N : Network) (L : Lists) (amounts bases : List ℤ) (p : ℕ) (l : p < N .paths) (w : Paths N L amounts bases p) where
+  -- after the hold rule
+  abbrev H : Lists
+  H = with-rule N L (Hold p)
 
-  abbrev tails'' : List ℕ
-  tails'' = set tails' (placeOf N (Setup p)) (N .from p)
+  abbrev held : List ℤ
+  held = with-amount N amounts (Hold p)
 
-  abbrev heads'' : List ℕ
-  heads'' = set heads' (placeOf N (Setup p)) (N .to p)
+  room-held : Room N H held bases
+  room-held = room-whole N L amounts bases (w .windows .room) (Hold p) l
 
-  path-keep : (s : Rule) → Exists N s → Stands N tails heads amounts s → Stands N tails'' heads'' amounts' s
-  path-keep s y h = stands-joined N tails' heads' amounts' path-room (Setup p) l s y (stands-put N (w .windows .room) (Hold p) l first s y h)
+  path-keep : (s : Rule) → Exists N s → Whole N L amounts s → Whole N (with-rule N H (Setup p)) held s
+  path-keep s y h =
+      let k = whole-kept N L amounts bases (w .windows .room) (Hold p) l s y h in
+      (stands-kept N H held bases room-held (Setup p) l s y (k .0), k .1)
 
-  paths-put : Paths N tails'' heads'' amounts' (set bases p (base N (Setup p))) (p + 1)
-  paths-put =
-      record {
-        windows =
-            record {
-              room =
-                  record {
-                    in-tails = rw length-set (path-room .in-tails);
-                    in-heads = rw length-set (path-room .in-heads);
-                    in-amounts = path-room .in-amounts;
-                  };
-              some = w .windows .some;
-              low = λ i a b. path-keep (Low i) (a, b) (w .windows .low i a b);
-              high = λ i a b. path-keep (High i) (a, b) (w .windows .high i a b);
-            };
-        in-bases = rw length-set (w .in-bases);
-        hold = λ q h. at-hold q h (ℕ-discrete q p);
-        setup = λ q h. at-setup q h (ℕ-discrete q p);
-        based = λ q h. at-based q h (ℕ-discrete q p);
-      }
+  setup-keep : (s : Rule) → Exists N s → Stands N L s → Stands N (with-rule N H (Setup p)) s
+  setup-keep s y h = stands-kept N H held bases room-held (Setup p) l s y (stands-kept N L amounts bases (w .windows .room) (Hold p) l s y h)
+
+  pub paths-more : Paths N (with-rule N H (Setup p)) held (set bases p (base N (Setup p))) (p + 1)
+  paths-more = record {
+    windows = record {
+      room =
+          let r = room-rule N H held bases room-held (Setup p) l in
+          record {
+            in-kinds = r .in-kinds;
+            in-numbers = r .in-numbers;
+            in-tails = r .in-tails;
+            in-heads = r .in-heads;
+            in-amounts = r .in-amounts;
+            in-bases = rw length-set (r .in-bases);
+          };
+      some = w .windows .some;
+      low = λ i a b. path-keep (Low i) (a, b) (w .windows .low i a b);
+      high = λ i a b. path-keep (High i) (a, b) (w .windows .high i a b);
+    };
+    hold = λ q h. at-hold q h (ℕ-discrete q p);
+    setup = λ q h. at-setup q h (ℕ-discrete q p);
+    based = λ q h. at-based q h (ℕ-discrete q p);
+  }
     where
-      at-hold : (q : ℕ) → q < p + 1 → Dec (q ≡ p) → Stands N tails'' heads'' amounts' (Hold q)
-      at-hold q h (yes e) = rw e (stands-joined N tails' heads' amounts' path-room (Setup p) l (Hold p) l (stands-new N (w .windows .room) (Hold p) l first))
+      at-hold : (q : ℕ) → q < p + 1 → Dec (q ≡ p) → Whole N (with-rule N H (Setup p)) held (Hold q)
+      at-hold q h (yes e) =
+          let k = whole-new N L amounts bases (w .windows .room) (Hold p) l in
+          subst (λ k. Whole N (with-rule N H (Setup p)) held (Hold k)) (sym e) (stands-kept N H held bases room-held (Setup p) l (Hold p) l (k .0), k .1)
       at-hold q h (no e) = path-keep (Hold q) (omega arith) (w .hold q (omega arith))
 
-      at-setup : (q : ℕ) → q < p + 1 → Dec (q ≡ p) → Joins N tails'' heads'' (Setup q)
-      at-setup q h (yes e) = rw e (joins-new N tails' heads' (path-room .in-tails) (path-room .in-heads) (Setup p) l)
-      at-setup q h (no e) =
-          joins-kept N tails' heads' (path-room .in-tails) (path-room .in-heads) (Setup p) l (Setup q) (omega arith)
-          (joins-put N (w .windows .room) (Hold p) l first (Setup q) (omega arith) (w .setup q (omega arith)))
+      at-setup : (q : ℕ) → q < p + 1 → Dec (q ≡ p) → Stands N (with-rule N H (Setup p)) (Setup q)
+      at-setup q h (yes e) = subst (λ k. Stands N (with-rule N H (Setup p)) (Setup k)) (sym e) (stands-new N H held bases room-held (Setup p) l)
+      at-setup q h (no e) = setup-keep (Setup q) (omega arith) (w .setup q (omega arith))
 
       at-based : (q : ℕ) → q < p + 1 → Dec (q ≡ p) → getD (set bases p (base N (Setup p))) q (pos 0) ≡ base N (Setup q)
-      at-based q h (yes e) = rw e (getD-set-same bases p (base N (Setup p)) (pos 0) (omega (arith, w .in-bases)))
+      at-based q h (yes e) =
+          subst (λ k. getD (set bases p (base N (Setup p))) k (pos 0) ≡ base N (Setup k)) (sym e)
+          (getD-set-same bases p (base N (Setup p)) (pos 0) (omega (arith, w .windows .room .in-bases)))
       at-based q h (no e) = getD-set-other bases p q (base N (Setup p)) (pos 0) e ∙ w .based q (omega arith)
 
--- as the code has the two places, and the ends and the two amounts from a path's record and its receiver's
-pub paths-more : (N : Network) {tails heads : List ℕ} {amounts bases : List ℤ} {tails' heads' : List ℕ} {amounts' : List ℤ} {tails'' heads'' : List ℕ} {bases' : List ℤ}
-    (n m p : ℕ) {road : Path} {receiver : Register} {short long : ℤ} → n ≡ N .registers → m ≡ N .paths → p < m → Paths N tails heads amounts bases p
-    → IsPath N p road → IsRegister N (road .to) receiver
-    → short ≡ receiver .hold .0 +ℤ road .uncertainty .0 -ℤ road .dmin .0
-    → long ≡ road .dmax .0 +ℤ receiver .setup .0 +ℤ road .uncertainty .0
-    → Put tails heads amounts (2 * (n - 1) + p) (road .to) (road .from) short tails' heads' amounts'
-    → (tails'' ≡ set tails' (2 * (n - 1) + p + m) (road .from)) × (heads'' ≡ set heads' (2 * (n - 1) + p + m) (road .to))
-    → bases' ≡ set bases p long
-    → Paths N tails'' heads'' amounts' bases' (p + 1)
-paths-more N n m p {road} {receiver} {short} {long} en em l w a b s g put ends kept =
-    let place : 2 * (n - 1) + p + m ≡ placeOf N (Setup p) = omega arith in
-    let short-is : short ≡ base N (Hold p) = s ∙ rw (b .hold, a .uncertainty, a .dmin, a .to) in
-    let long-is : long ≡ base N (Setup p) = g ∙ rw (b .setup, a .uncertainty, a .dmax, a .to) in
-    let first = rw (en, a .to, a .from, short-is) at put in
-    let in-tails = rw (place, a .from) at (ends .0) in
-    let in-heads = rw (place, a .to) at (ends .1) in
-    let in-bases = rw long-is at kept in
-    rw (in-tails, in-heads, in-bases) (paths-put N p (omega arith) w first)
+-- as the code has the two places, the ends and the two amounts
+pub paths-put : (N : Network) (n m p : ℕ) {L L₁ L₂ : Lists} {amounts bases held kept : List ℤ} {short long : ℤ} {e g from to : ℕ}
+    → n ≡ N .registers → m ≡ N .paths → p < m → Paths N L amounts bases p → from ≡ N .from p → to ≡ N .to p
+    → e ≡ holdPlace n p → L₁ ≡ written L e 1 p to from → short ≡ base N (Hold p) → held ≡ set amounts e short
+    → g ≡ setupPlace n m p → L₂ ≡ written L₁ g 0 p from to → long ≡ base N (Setup p) → kept ≡ set bases p long
+    → Paths N L₂ held kept (p + 1)
+paths-put N n m p {L} {L₁} {L₂} {amounts} {bases} en em l w f t ee el ea eh ge gl ga gk =
+    rw (gk, gl, ge, ga, eh, el, ee, ea, f, t, en, em) (paths-more N L amounts bases p (omega arith) w)
 
 -- ---- all rules
 
 -- the rule at a place has that place
 rule-place : (N : Network) (e : ℕ) → e < ruleCount N → placeOf N (ruleAt N e) ≡ e
-rule-place N e h =
-    rule-cases N (λ r. placeOf N r ≡ e) e (λ a. omega arith) (λ a b. omega arith) (λ a b. omega arith) (λ a. omega arith)
+rule-place N e h = rule-cases N (λ r. placeOf N r ≡ e) e (λ a. omega arith) (λ a b. omega arith) (λ a b. omega arith) (λ a. omega arith)
 
-module _ (N : Network) (tails heads : List ℕ) (amounts bases : List ℤ) (k : ℕ) (all : N .paths ≤ k) (w : Paths N tails heads amounts bases k) where
-  rule-joins : (r : Rule) → Exists N r → Joins N tails heads r
-  rule-joins (Setup p) h = w .setup p (omega arith)
-  rule-joins (Hold p) h = w .hold p (omega arith) .joins
-  rule-joins (Low i) h = w .windows .low i (h .0) (h .1) .joins
-  rule-joins (High i) h = w .windows .high i (h .0) (h .1) .joins
+-- other names for the same arrows
+row-same : {E : Type 0} (G : Graph E) (old name : ℕ → E) (count : ℕ) → ((e : ℕ) → e < count → name e ≡ old e) → Row G old count → Row G name count
+row-same G old name count same row = record {
+  named = λ e h. rw (same e h) (row .named e h);
+  found = λ r h. let (e, b, is) = row .found r h in (e, b, same e b ∙ is);
+}
+
+kind-below : (r : Rule) → kind r < 4
+kind-below (Setup p) = omega arith
+kind-below (Hold p) = omega arith
+kind-below (Low i) = omega arith
+kind-below (High i) = omega arith
+
+module _ (N : Network) (L : Lists) (amounts bases : List ℤ) (k : ℕ) (all : N .paths ≤ k) (w : Paths N L amounts bases k) where
+  stands : (r : Rule) → Exists N r → Stands N L r
+  stands (Setup p) h = w .setup p (omega arith)
+  stands (Hold p) h = w .hold p (omega arith) .0
+  stands (Low i) h = w .windows .low i (h .0) (h .1) .0
+  stands (High i) h = w .windows .high i (h .0) (h .1) .0
+
+  -- the rule at each place
+  abbrev there : (e : ℕ) → e < ruleCount N → Stands N L (ruleAt N e)
+  there e h = stands (ruleAt N e) (rule-exists N e h)
+
+  rule-in : (r : Rule) → Exists N r → ruleIn L (placeOf N r) ≡ r
+  rule-in r h = let s = stands r h in rw (s .of-kind, s .of-number) (rule-of r)
+
+  name-is : (e : ℕ) → e < ruleCount N → ruleIn L e ≡ ruleAt N e
+  name-is e h = ap (ruleIn L) (sym (rule-place N e h)) ∙ rule-in (ruleAt N e) (rule-exists N e h)
 
   fixed-weighs : (e : ℕ) → e < fixedCount N → getD amounts (placeOf N (ruleAt N e)) (pos 0) ≡ base N (ruleAt N e)
   fixed-weighs e h =
       rule-cases N (λ r. getD amounts (placeOf N r) (pos 0) ≡ base N r) e
-      (λ a. w .windows .low (e + 1) (omega arith) (omega arith) .weighs)
-      (λ a b. w .windows .high (e - windows N + 1) (omega arith) (omega arith) .weighs)
-      (λ a b. w .hold (e - 2 * windows N) (omega arith) .weighs)
+      (λ a. w .windows .low (e + 1) (omega arith) (omega arith) .1)
+      (λ a b. w .windows .high (e - windows N + 1) (omega arith) (omega arith) .1)
+      (λ a b. w .hold (e - 2 * windows N) (omega arith) .1)
       (λ a. absurd (omega arith))
 
-  pub paths-all : Filled N tails heads amounts bases
-  paths-all =
-      record {
-        room = w .windows .room;
-        in-bases = w .in-bases;
-        leaves = λ e h. ap (λ k. getD tails k 0) (sym (rule-place N e h)) ∙ rule-joins (ruleAt N e) (rule-exists N e h) .leaves;
-        reaches = λ e h. ap (λ k. getD heads k 0) (sym (rule-place N e h)) ∙ rule-joins (ruleAt N e) (rule-exists N e h) .reaches;
-        fixed = λ e h. ap (λ k. getD amounts k (pos 0)) (sym (rule-place N e (omega arith))) ∙ fixed-weighs e h;
-        based = λ p h. w .based p (omega arith);
-      }
+  pub paths-all : Filled N L amounts bases
+  paths-all = record {
+    room = w .windows .room;
+    row = row-same (graphOf N) (ruleAt N) (ruleIn L) (ruleCount N) name-is (rules-row N);
+    fixed-row = row-same (fixedGraph (rules N)) (ruleAt N) (ruleIn L) (fixedCount N) (λ e h. name-is e (omega arith)) (fixed-row N);
+    kinds-are = λ e h. let k = ap (λ i. getD (L .kinds) i 0) (sym (rule-place N e h)) ∙ there e h .of-kind in rw k (kind-below (ruleAt N e));
+    leaves = λ e h. ap (λ k. getD (L .tails) k 0) (sym (rule-place N e h)) ∙ there e h .leaves ∙ ap (tail N) (sym (name-is e h));
+    reaches = λ e h. ap (λ k. getD (L .heads) k 0) (sym (rule-place N e h)) ∙ there e h .reaches ∙ ap (head N) (sym (name-is e h));
+    fixed = λ e h. ap (λ k. getD amounts k (pos 0)) (sym (rule-place N e (omega arith))) ∙ fixed-weighs e h ∙ ap (base N) (sym (name-is e (omega arith)));
+    setups = λ p h. rule-in (Setup p) h;
+    based = λ p h. w .based p (omega arith);
+    lows = λ v z b. rule-in (Low v) (z, b);
+  }

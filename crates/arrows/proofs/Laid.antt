@@ -1,61 +1,171 @@
--- What filled lists are to a caller: the network's first rules laid out, at every period without the setup rules, and every amount in a
--- range that leaves the sums of a relaxation room.
-use mathlib.Core.Path.{_≡_, refl, _∙_}
+-- What filled lists are to a caller: all rules laid out at the period whose amounts are in place, the rules that do not know it at every
+-- period, and every amount in a range that leaves the sums of a relaxation room.
+use mathlib.Core.Path.{_≡_, refl, sym, ap, _∙_}
 use mathlib.Core.List.{List}
 use Prim.Native.Nat.{ℕ, _+_, _-_, _*_, _≤_, _<_}
 use native.Mathlib.Omega.{arith}
-use lib.IntN.{ℤ, pos, negsuc}
-use Rattle.whole.proofs.Lin.{lin}
+use native.Mathlib.Decide.{decLt}
+use lib.ListN.{length, getD}
+use lib.IntN.{ℤ, pos, negsuc, negℤ, _-ℤ_}
+use lib.Signed.{_≤ℤ_}
+use Rattle.whole.proofs.Lin.{lin, below, negs}
 use Rattle.paper.specs.Network.{Network}
-use Rattle.paper.specs.Rules.{base}
+use Rattle.paper.specs.Rules.{Rule, Setup, Hold, Low, High, tail, head, base}
 use Rattle.paper.specs.Rules.{amount as ruleAmount}
-use Rattle.paper.proofs.Legal.{Between, Legal}
-use Rattle.loops.specs.Arrows.{Arrows, Sound, Windowed, arrows, amount}
-use Rattle.loops.specs.Layout.{windows, fixedCount, ruleCount, ruleAt, Lays}
-use Rattle.loops.proofs.Places.{rule-cases, laid-exists, lays-sound, lays-windowed, legal-joined}
-use Rattle.arrows.specs.Filled.{Filled}
-use Rattle.arrows.proofs.Amounts.{amount-modest}
+use Rattle.paper.proofs.Legal.{Legal}
+use Rattle.loops.specs.Arrows.{Arrows, Sound, Lows, Highs, arrows, amount}
+use Rattle.loops.specs.Family.{Graph, Row, Framed, Lays, fixedGraph}
+use Rattle.loops.specs.RuleFamily.{IsFixed, graphOf, rules}
+use Rattle.loops.specs.Layout.{lowPlace, fixedPlaces, fixedCount, ruleCount}
+use Rattle.loops.specs.Shape.{Shape, Modest}
+use Rattle.loops.specs.Begun.{Begins}
+use Rattle.loops.proofs.Places.{legal-joined, rules-framed, fixed-framed}
+use Rattle.loops.proofs.Outcomes.{framed-sound, framed-lows, framed-highs}
+use Rattle.rules.proofs.Amounts.{base-small, amount-modest}
+use Rattle.rules.proofs.Ranges.{small-less}
+use Rattle.rules.specs.Amounts.{Small}
+use Rattle.places.specs.Few.{Few}
+use Rattle.arrows.specs.Filled.{Lists, ruleIn, Room, Filled, Period, Weighable, Weighed}
 
 -- ---- the counts as a caller has them
-
-module _ (N : Network) (n m : ℕ) (e : n ≡ N .registers) (g : m ≡ N .paths) where
-  pub fixed-is : 2 * (n - 1) + m ≡ fixedCount N
-  fixed-is = omega arith
-
-  pub rules-is : 2 * (n - 1) + 2 * m ≡ ruleCount N
-  rules-is = omega arith
 
 -- few enough that two bytes hold a place
 pub rules-few : (N : Network) → Legal N → ruleCount N ≤ 4606
 rules-few N l = omega (arith, l .registers-to, l .paths-to)
 
--- ---- filled lists
+pub legal-few : (N : Network) → Legal N → (n m : ℕ) → n ≡ N .registers → m ≡ N .paths → Few n m
+legal-few N l n m en em = let a = l .registers-from in let b = l .registers-to in let c = l .paths-to in record { some = omega arith; registers = omega arith; paths = omega arith }
 
--- the rules that do not know the period, at every period
-fixed-amount : (N : Network) (P e : ℕ) → e < fixedCount N → base N (ruleAt N e) ≡ ruleAmount N P (ruleAt N e)
-fixed-amount N P e h =
-    rule-cases N (λ r. base N r ≡ ruleAmount N P r) e (λ a. refl) (λ a b. refl) (λ a b. refl) (λ a. absurd (omega arith))
+fixed-amount : (N : Network) (P : ℕ) (r : Rule) → IsFixed r → base N r ≡ ruleAmount N P r
+fixed-amount N P (Setup p) h = absurd h
+fixed-amount N P (Hold p) h = refl
+fixed-amount N P (Low i) h = refl
+fixed-amount N P (High i) h = refl
 
-pub filled-fixed : (N : Network) (n P : ℕ) {tails heads : List ℕ} {amounts bases : List ℤ} → n ≡ N .registers → Filled N tails heads amounts bases
-    → Lays N P (arrows n (fixedCount N) tails heads amounts)
-filled-fixed N n P e f =
-    record {
-      registers = e;
-      within = omega arith;
-      tails = λ k h. f .leaves k (omega arith);
-      heads = λ k h. f .reaches k (omega arith);
-      amounts = λ k h. f .fixed k h ∙ fixed-amount N P k h;
+module _ (N : Network) (L : Lists) (amounts bases : List ℤ) (f : Filled N L amounts bases) where
+  -- ---- the rules that do not know the period, at every period
+
+  pub filled-fixed : (n P : ℕ) → n ≡ N .registers → Lays (fixedGraph (rules N)) (ruleIn L) (ruleAmount N P) (arrows n (fixedCount N) (L .tails) (L .heads) amounts)
+  filled-fixed n P e = record {
+    registers = e;
+    tails = λ k h. f .leaves k (omega arith);
+    heads = λ k h. f .reaches k (omega arith);
+    amounts = λ k h. f .fixed k h ∙ fixed-amount N P (ruleIn L k) (f .fixed-row .named k h .1);
+  }
+
+  -- ---- another period
+
+  pub filled-weighable : Legal N → (n m : ℕ) → n ≡ N .registers → m ≡ N .paths → (period : ℤ) → Period period → Weighable n m period amounts bases
+  filled-weighable legal n m en em period q = record {
+    few = legal-few N legal n m en em;
+    in-amounts = omega (arith, f .room .in-amounts);
+    in-bases = omega (arith, f .room .in-bases);
+    fits = λ p h. rw (f .based p (omega arith)) (small-less (base-small legal (Setup p) (omega arith)) small);
+  }
+    where
+      small : Small period
+      small = record { from = omega lin; to = omega lin }
+
+  module _ (n m : ℕ) (en : n ≡ N .registers) (em : m ≡ N .paths) (period : ℤ) (after : List ℤ) (w : Weighed (fixedPlaces n m) m period bases amounts after) where
+    abbrev fixed-is : fixedPlaces n m ≡ fixedCount N
+    fixed-is = omega arith
+
+    pub weighed-filled : Filled N L after bases
+    weighed-filled = record {
+      room = record {
+        in-kinds = f .room .in-kinds;
+        in-numbers = f .room .in-numbers;
+        in-tails = f .room .in-tails;
+        in-heads = f .room .in-heads;
+        in-amounts = omega (arith, w .long, f .room .in-amounts);
+        in-bases = f .room .in-bases;
+      };
+      row = f .row;
+      fixed-row = f .fixed-row;
+      kinds-are = f .kinds-are;
+      leaves = f .leaves;
+      reaches = f .reaches;
+      fixed = λ e h. w .same e (omega arith) ∙ f .fixed e h;
+      setups = f .setups;
+      based = f .based;
+      lows = f .lows;
     }
 
--- ---- of any arrows that are laid out so
+    -- All rules stand at the period: those before the setup rules have the amount that they have at every period, and a setup rule has what
+    -- it is without the period, less the period.
+    pub weighed-lays : (P : ℕ) → period ≡ pos P → Lays (graphOf N) (ruleIn L) (ruleAmount N P) (arrows n (ruleCount N) (L .tails) (L .heads) after)
+    weighed-lays P e = record { registers = en; tails = f .leaves; heads = f .reaches; amounts = λ j h. at j h (decLt j (fixedCount N)) }
+      where
+        at : (j : ℕ) → j < ruleCount N → Dec (j < fixedCount N) → getD after j (pos 0) ≡ ruleAmount N P (ruleIn L j)
+        at j h (yes b) = w .same j (omega arith) ∙ filled-fixed n P en .amounts j b
+        at j h (no b) =
+            let p = j - fixedCount N in
+            let place : fixedCount N + (j - fixedCount N) ≡ j = omega arith in
+            let here : fixedPlaces n m + (j - fixedCount N) ≡ j = omega arith in
+            let value = w .new p (omega arith) in
+            let is = f .setups p (omega arith) in
+            ap (λ i. getD after i (pos 0)) (sym here) ∙ value ∙ ap (λ z. z -ℤ period) (f .based p (omega arith)) ∙ ap (λ z. base N (Setup p) -ℤ z) e
+            ∙ ap (ruleAmount N P) (sym is) ∙ ap (λ i. ruleAmount N P (ruleIn L i)) place
 
-module _ (N : Network) (P : ℕ) (Γ : Arrows) (legal : Legal N) (y : Lays N P Γ) where
-  pub lays-modest : P ≤ 10000000 → (e : ℕ) → e < Γ .count → Between (negsuc 16777215) (pos 4194304) (amount Γ e)
-  lays-modest q e h = rw (y .amounts e h) (amount-modest legal P (ruleAt N e) q (laid-exists N P Γ y e h))
+    -- what stands before the setup rules is as it was
+    pub weighed-begins : Begins (arrows n (ruleCount N) (L .tails) (L .heads) after) (arrows n (fixedPlaces n m) (L .tails) (L .heads) amounts)
+    weighed-begins = record { registers = refl; fewer = omega arith; tails = λ e h. refl; heads = λ e h. refl; amounts = w .same }
 
-  -- every register's window, with the most that the paper allows rounded up to 2 ^ 24
-  pub lays-highs : 2 * windows N ≤ Γ .count → Windowed Γ 16777216
-  lays-highs b = lays-windowed N P Γ y 16777216 (λ i h. let k = legal .high i h in omega lin) b
+-- ---- laid-out arrows are what a relaxation asks for
 
-  pub lays-joined : Sound Γ
-  lays-joined = lays-sound N P Γ y (legal-joined N legal)
+below-high : (z : ℤ) → z ≤ℤ pos 16777216 → below (negℤ z) ≤ 16777216
+below-high (pos n) h = omega (lin, negs (pos n))
+below-high (negsuc n) h = omega (lin, negs (negsuc n))
+
+module _ (N : Network) (legal : Legal N) (L : Lists) (amounts bases : List ℤ) (room : Room N L amounts bases) (n P : ℕ) (small : P ≤ 10000000) where
+  -- a high rule keeps its register at or below 2 ^ 24
+  highest : (v : ℕ) → 0 < v → v < N .registers → below (ruleAmount N P (High v)) ≤ 16777216
+  highest v z b =
+      let h = legal .high v b in
+      below-high (N .high v) (omega lin)
+
+  modest : (r : Rule) → graphOf N .Here r → Modest (ruleAmount N P r)
+  modest r h = let b = amount-modest legal P r small h in record { from = b .from; to = b .to }
+
+  module _ (row : Row (graphOf N) (ruleIn L) (ruleCount N)) (y : Lays (graphOf N) (ruleIn L) (ruleAmount N P) (arrows n (ruleCount N) (L .tails) (L .heads) amounts)) where
+    pub laid-shape : Shape (arrows n (ruleCount N) (L .tails) (L .heads) amounts)
+    laid-shape =
+        let few = legal .registers-to in
+        let same = y .registers in
+        let all = rules-few N legal in
+        record {
+          sound = framed-sound (graphOf N) (rules-framed N (legal-joined N legal)) (ruleIn L) (ruleAmount N P) _ row y;
+          few = omega arith;
+          named = omega arith;
+          tails-long = room .in-tails;
+          heads-long = room .in-heads;
+          amounts-long = room .in-amounts;
+          modest = λ e h. rw (y .amounts e h) (modest (ruleIn L e) (row .named e h));
+        }
+
+    pub laid-highs : Highs (arrows n (ruleCount N) (L .tails) (L .heads) amounts) 16777216
+    laid-highs = framed-highs (graphOf N) (rules-framed N (legal-joined N legal)) (ruleIn L) (ruleAmount N P) _ row y 16777216 highest
+
+  module _ (f : Filled N L amounts bases) (y : Lays (fixedGraph (rules N)) (ruleIn L) (ruleAmount N P) (arrows n (fixedCount N) (L .tails) (L .heads) amounts)) where
+    pub fixed-shape : Shape (arrows n (fixedCount N) (L .tails) (L .heads) amounts)
+    fixed-shape =
+        let few = legal .registers-to in
+        let same = y .registers in
+        let all = rules-few N legal in
+        record {
+          sound = framed-sound (fixedGraph (rules N)) (fixed-framed N (legal-joined N legal)) (ruleIn L) (ruleAmount N P) _ (f .fixed-row) y;
+          few = omega arith;
+          named = omega arith;
+          tails-long = omega (arith, room .in-tails);
+          heads-long = omega (arith, room .in-heads);
+          amounts-long = omega (arith, room .in-amounts);
+          modest = λ e h. rw (y .amounts e h) (modest (ruleIn L e) (f .fixed-row .named e h .0));
+        }
+
+    pub fixed-highs : Highs (arrows n (fixedCount N) (L .tails) (L .heads) amounts) 16777216
+    fixed-highs = framed-highs (fixedGraph (rules N)) (fixed-framed N (legal-joined N legal)) (ruleIn L) (ruleAmount N P) _ (f .fixed-row) y 16777216 highest
+
+    pub fixed-lows : Lows (arrows n (fixedCount N) (L .tails) (L .heads) amounts) lowPlace
+    fixed-lows =
+        framed-lows (fixedGraph (rules N)) (fixed-framed N (legal-joined N legal)) (ruleIn L) (ruleAmount N P) _ (f .fixed-row) y lowPlace
+        (λ v z b. (omega arith, f .lows v z b))

@@ -1,6 +1,6 @@
--- Laws of the arrows in memory. For callers: Laid.
-pub mod Amounts
+-- For callers: `Laid`, and `Weighing` for what a period changes.
 pub mod Puts
 pub mod Fills
-pub mod Periods
+pub mod Same
+pub mod Weighing
 pub mod Laid

@@ -1,18 +1,24 @@
 -- A rule written at its place stands there, and no other rule is disturbed: two rules that exist never share a place.
 use mathlib.Core.Path.{_≡_, sym, ap, _∙_}
 use mathlib.Core.List.{List}
-use Prim.Native.Nat.{ℕ, _≤_}
+use Prim.Native.Nat.{ℕ, _≤_, _<_}
 use native.Mathlib.Omega.{arith}
 use native.Mathlib.Decide.{ℕ-discrete}
 use lib.ListN.{length, getD, set, length-set}
 use lib.Seq.{getD-set-same, getD-set-other}
 use lib.IntN.{ℤ, pos}
 use Rattle.paper.specs.Network.{Network}
-use Rattle.paper.specs.Rules.{Rule, Exists, tail, head, base}
+use Rattle.paper.specs.Rules.{Rule, Exists, kind, number, tail, head, base}
 use Rattle.loops.specs.Layout.{ruleCount, ruleAt, placeOf}
 use Rattle.loops.proofs.Places.{place-rule, place-below}
-use Rattle.arrows.specs.Filled.{Room}
-use Rattle.arrows.specs.Filling.{Put, Joins, Stands}
+use Rattle.arrows.specs.Filled.{Lists, Room}
+use Rattle.arrows.specs.Filling.{Writable, Put, written, Stands, Weighs}
+
+-- what was put is what is written
+pub put-is : (L : Lists) (e k i x y : ℕ) (kinds numbers tails heads : List ℕ)
+    → Put L e k i x y (record { kinds = kinds; numbers = numbers; tails = tails; heads = heads })
+    → _≡_ {A = Lists} (record { kinds = kinds; numbers = numbers; tails = tails; heads = heads }) (written L e k i x y)
+put-is L e k i x y kinds numbers tails heads p = rw (p .in-kinds, p .in-numbers, p .in-tails, p .in-heads)
 
 -- what a rule's place holds, in a list of any kind: f gives it for each rule
 module _ (N : Network) {A : Type 0} (d : A) (f : Rule → A) (l : List A) (room : ruleCount N ≤ length l) (r : Rule) (x : Exists N r) where
@@ -26,53 +32,92 @@ module _ (N : Network) {A : Type 0} (d : A) (f : Rule → A) (l : List A) (room 
       go (yes e) = let same : s ≡ r = sym (place-rule N s y) ∙ ap (ruleAt N) e ∙ place-rule N r x in rw same new
       go (no e) = getD-set-other l (placeOf N r) (placeOf N s) (f r) d e ∙ h
 
-module _ (N : Network) (tails heads : List ℕ) (in-tails : ruleCount N ≤ length tails) (in-heads : ruleCount N ≤ length heads) (r : Rule) (x : Exists N r) where
-  pub joins-new : Joins N (set tails (placeOf N r) (tail N r)) (set heads (placeOf N r) (head N r)) r
-  joins-new = record { leaves = new N 0 (tail N) tails in-tails r x; reaches = new N 0 (head N) heads in-heads r x }
+-- the lists with rule r written at its place
+abbrev pub with-rule : Network → Lists → Rule → Lists
+with-rule N L r = written L (placeOf N r) (kind r) (number r) (tail N r) (head N r)
 
-  pub joins-kept : (s : Rule) → Exists N s → Joins N tails heads s → Joins N (set tails (placeOf N r) (tail N r)) (set heads (placeOf N r) (head N r)) s
-  joins-kept s y j =
+abbrev pub with-amount : Network → List ℤ → Rule → List ℤ
+with-amount N amounts r = set amounts (placeOf N r) (base N r)
+
+module _ (N : Network) (L : Lists) (amounts bases : List ℤ) (room : Room N L amounts bases) (r : Rule) (x : Exists N r) where
+  pub room-rule : Room N (with-rule N L r) amounts bases
+  room-rule = record {
+    in-kinds = rw length-set (room .in-kinds);
+    in-numbers = rw length-set (room .in-numbers);
+    in-tails = rw length-set (room .in-tails);
+    in-heads = rw length-set (room .in-heads);
+    in-amounts = room .in-amounts;
+    in-bases = room .in-bases;
+  }
+
+  pub room-amount : Room N L (with-amount N amounts r) bases
+  room-amount = record {
+    in-kinds = room .in-kinds;
+    in-numbers = room .in-numbers;
+    in-tails = room .in-tails;
+    in-heads = room .in-heads;
+    in-amounts = rw length-set (room .in-amounts);
+    in-bases = room .in-bases;
+  }
+
+  pub stands-new : Stands N (with-rule N L r) r
+  stands-new = record {
+    of-kind = new N 0 kind (L .kinds) (room .in-kinds) r x;
+    of-number = new N 0 number (L .numbers) (room .in-numbers) r x;
+    leaves = new N 0 (tail N) (L .tails) (room .in-tails) r x;
+    reaches = new N 0 (head N) (L .heads) (room .in-heads) r x;
+  }
+
+  pub stands-kept : (s : Rule) → Exists N s → Stands N L s → Stands N (with-rule N L r) s
+  stands-kept s y h = record {
+    of-kind = kept N 0 kind (L .kinds) (room .in-kinds) r x s y (h .of-kind);
+    of-number = kept N 0 number (L .numbers) (room .in-numbers) r x s y (h .of-number);
+    leaves = kept N 0 (tail N) (L .tails) (room .in-tails) r x s y (h .leaves);
+    reaches = kept N 0 (head N) (L .heads) (room .in-heads) r x s y (h .reaches);
+  }
+
+  pub weighs-new : Weighs N (with-amount N amounts r) r
+  weighs-new = new N (pos 0) (base N) amounts (room .in-amounts) r x
+
+  pub weighs-kept : (s : Rule) → Exists N s → Weighs N amounts s → Weighs N (with-amount N amounts r) s
+  weighs-kept s y h = kept N (pos 0) (base N) amounts (room .in-amounts) r x s y h
+
+-- ---- as the code goes: a place of a rule that exists may be written, and there is room still
+
+module _ (N : Network) {L : Lists} {amounts bases : List ℤ} (room : Room N L amounts bases) where
+  pub room-writable : (r : Rule) → Exists N r → {e i x y : ℕ} → e ≡ placeOf N r → i ≤ 65535 → x ≤ 65535 → y ≤ 65535 → Writable L e i x y
+  room-writable r h is si sx sy =
+      let b = place-below N r h in
       record {
-        leaves = kept N 0 (tail N) tails in-tails r x s y (j .leaves);
-        reaches = kept N 0 (head N) heads in-heads r x s y (j .reaches);
+        in-kinds = omega (arith, room .in-kinds);
+        in-numbers = omega (arith, room .in-numbers);
+        in-tails = omega (arith, room .in-tails);
+        in-heads = omega (arith, room .in-heads);
+        small-number = si;
+        small-tail = sx;
+        small-head = sy;
       }
 
--- where only ends are written, what stands keeps its amount
-pub stands-joined : (N : Network) (tails heads : List ℕ) (amounts : List ℤ) → Room N tails heads amounts → (r : Rule) → Exists N r
-    → (s : Rule) → Exists N s → Stands N tails heads amounts s → Stands N (set tails (placeOf N r) (tail N r)) (set heads (placeOf N r) (head N r)) amounts s
-stands-joined N tails heads amounts room r x s y h =
-    record { joins = joins-kept N tails heads (room .in-tails) (room .in-heads) r x s y (h .joins); weighs = h .weighs }
+  pub room-weighable : (r : Rule) → Exists N r → {e : ℕ} → e ≡ placeOf N r → e < length amounts
+  room-weighable r h is = let b = place-below N r h in omega (arith, room .in-amounts)
 
--- the arrow of rule r is written
-abbrev pub PutRule : Network → List ℕ → List ℕ → List ℤ → Rule → List ℕ → List ℕ → List ℤ → Type 0
-PutRule N tails heads amounts r = Put tails heads amounts (placeOf N r) (tail N r) (head N r) (base N r)
+  pub room-put : {e k i x y : ℕ} {kinds numbers tails heads : List ℕ} → Put L e k i x y (record { kinds = kinds; numbers = numbers; tails = tails; heads = heads })
+      → Room N (record { kinds = kinds; numbers = numbers; tails = tails; heads = heads }) amounts bases
+  room-put p = record {
+    in-kinds = rw (p .in-kinds, length-set) (room .in-kinds);
+    in-numbers = rw (p .in-numbers, length-set) (room .in-numbers);
+    in-tails = rw (p .in-tails, length-set) (room .in-tails);
+    in-heads = rw (p .in-heads, length-set) (room .in-heads);
+    in-amounts = room .in-amounts;
+    in-bases = room .in-bases;
+  }
 
-module _ (N : Network) {tails heads : List ℕ} {amounts : List ℤ} (room : Room N tails heads amounts) (r : Rule) (x : Exists N r)
-    {tails' heads' : List ℕ} {amounts' : List ℤ} (put : PutRule N tails heads amounts r tails' heads' amounts') where
-  pub room-put : Room N tails' heads' amounts'
-  room-put =
-      rw (put .in-tails, put .in-heads, put .in-amounts)
-      (record {
-        in-tails = rw length-set (room .in-tails);
-        in-heads = rw length-set (room .in-heads);
-        in-amounts = rw length-set (room .in-amounts);
-      })
-
-  pub stands-new : Stands N tails' heads' amounts' r
-  stands-new =
-      rw (put .in-tails, put .in-heads, put .in-amounts)
-      (record {
-        joins = joins-new N tails heads (room .in-tails) (room .in-heads) r x;
-        weighs = new N (pos 0) (base N) amounts (room .in-amounts) r x;
-      })
-
-  pub joins-put : (s : Rule) → Exists N s → Joins N tails heads s → Joins N tails' heads' s
-  joins-put s y j = rw (put .in-tails, put .in-heads) (joins-kept N tails heads (room .in-tails) (room .in-heads) r x s y j)
-
-  pub stands-put : (s : Rule) → Exists N s → Stands N tails heads amounts s → Stands N tails' heads' amounts' s
-  stands-put s y h =
-      rw (put .in-tails, put .in-heads, put .in-amounts)
-      (record {
-        joins = joins-kept N tails heads (room .in-tails) (room .in-heads) r x s y (h .joins);
-        weighs = kept N (pos 0) (base N) amounts (room .in-amounts) r x s y (h .weighs);
-      })
+  pub room-weighed : {after : List ℤ} (e : ℕ) (z : ℤ) → after ≡ set amounts e z → Room N L after bases
+  room-weighed e z w = record {
+    in-kinds = room .in-kinds;
+    in-numbers = room .in-numbers;
+    in-tails = room .in-tails;
+    in-heads = room .in-heads;
+    in-amounts = rw (w, length-set) (room .in-amounts);
+    in-bases = room .in-bases;
+  }

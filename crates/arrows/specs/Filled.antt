@@ -1,36 +1,77 @@
--- The caller's lists once they are filled: what a network's rules are in memory, by place, and what the period adds.
+-- The caller's lists once they are filled: which rule stands at each place, its arrow's ends and its amount, and what the period adds.
 use mathlib.Core.Path.{_≡_}
 use mathlib.Core.List.{List}
-use Prim.Native.Nat.{ℕ, _≤_, _<_}
+use Prim.Native.Nat.{ℕ, _+_, _≤_, _<_}
 use lib.ListN.{length, getD}
-use lib.IntN.{ℤ, pos}
+use lib.IntN.{ℤ, pos, _-ℤ_}
 use lib.Signed.{_≤ℤ_}
+use mir.Syntax.{w32}
+use mir.Val.{SFits}
 use Rattle.paper.specs.Network.{Network}
-use Rattle.paper.specs.Rules.{Setup, tail, head, base}
-use Rattle.loops.specs.Arrows.{arrows}
-use Rattle.loops.specs.Layout.{fixedCount, ruleCount, ruleAt, Lays}
+use Rattle.paper.specs.Rules.{Rule, Setup, Low, tail, head, base}
+use Rattle.loops.specs.Family.{Row, fixedGraph}
+use Rattle.loops.specs.RuleFamily.{graphOf, rules}
+use Rattle.loops.specs.Names.{named}
+use Rattle.loops.specs.Layout.{lowPlace, fixedPlaces, allPlaces, fixedCount, ruleCount}
+use Rattle.places.specs.Few.{Few}
+
+-- the rules by place: each one's kind and number, and the registers that its arrow leaves and reaches
+pub record Lists : Type 0 where
+  pub kinds : List ℕ
+  pub numbers : List ℕ
+  pub tails : List ℕ
+  pub heads : List ℕ
+
+abbrev pub lists : List ℕ → List ℕ → List ℕ → List ℕ → Lists
+lists kinds numbers tails heads = record { kinds = kinds; numbers = numbers; tails = tails; heads = heads }
+
+-- the rule at a place
+abbrev pub ruleIn : Lists → ℕ → Rule
+ruleIn L = named (L .kinds) (L .numbers)
 
 -- the lists are long enough for every rule
-pub record Room (N : Network) (tails heads : List ℕ) (amounts : List ℤ) : Type 0 where
-  pub in-tails : ruleCount N ≤ length tails
-  pub in-heads : ruleCount N ≤ length heads
+pub record Room (N : Network) (L : Lists) (amounts bases : List ℤ) : Type 0 where
+  pub in-kinds : ruleCount N ≤ length (L .kinds)
+  pub in-numbers : ruleCount N ≤ length (L .numbers)
+  pub in-tails : ruleCount N ≤ length (L .tails)
+  pub in-heads : ruleCount N ≤ length (L .heads)
   pub in-amounts : ruleCount N ≤ length amounts
-
--- every rule has its ends, every rule that does not know the period has its amount, and of the others what they are without it is kept
-pub record Filled (N : Network) (tails heads : List ℕ) (amounts bases : List ℤ) : Type 0 where
-  pub room : Room N tails heads amounts
   pub in-bases : N .paths ≤ length bases
-  pub leaves : (e : ℕ) → e < ruleCount N → getD tails e 0 ≡ tail N (ruleAt N e)
-  pub reaches : (e : ℕ) → e < ruleCount N → getD heads e 0 ≡ head N (ruleAt N e)
-  pub fixed : (e : ℕ) → e < fixedCount N → getD amounts e (pos 0) ≡ base N (ruleAt N e)
+
+-- Every rule has a place, and those that do not know the period have theirs before all others. Each place has its rule's ends, and before
+-- the setup rules its amount; of a setup rule what its amount is without the period is kept.
+pub record Filled (N : Network) (L : Lists) (amounts bases : List ℤ) : Type 0 where
+  pub room : Room N L amounts bases
+  pub row : Row (graphOf N) (ruleIn L) (ruleCount N)
+  pub fixed-row : Row (fixedGraph (rules N)) (ruleIn L) (fixedCount N)
+  pub kinds-are : (e : ℕ) → e < ruleCount N → getD (L .kinds) e 0 < 4
+  pub leaves : (e : ℕ) → e < ruleCount N → getD (L .tails) e 0 ≡ tail N (ruleIn L e)
+  pub reaches : (e : ℕ) → e < ruleCount N → getD (L .heads) e 0 ≡ head N (ruleIn L e)
+  pub fixed : (e : ℕ) → e < fixedCount N → getD amounts e (pos 0) ≡ base N (ruleIn L e)
+  pub setups : (p : ℕ) → p < N .paths → ruleIn L (fixedCount N + p) ≡ Setup p
   pub based : (p : ℕ) → p < N .paths → getD bases p (pos 0) ≡ base N (Setup p)
+  pub lows : (v : ℕ) → 0 < v → v < N .registers → ruleIn L (lowPlace v) ≡ Low v
 
 -- a period that the paper allows
 pub record Period (z : ℤ) : Type 0 where
   pub from : pos 1 ≤ℤ z
   pub to : z ≤ℤ pos 10000000
 
--- filled still, and all rules laid out at the period
-pub record AtPeriod (N : Network) (n : ℕ) (period : ℤ) (tails heads : List ℕ) (amounts bases : List ℤ) : Type 0 where
-  pub filled : Filled N tails heads amounts bases
-  pub lays : (P : ℕ) → period ≡ pos P → Lays N P (arrows n (ruleCount N) tails heads amounts)
+-- ---- the setup rules' amounts at a period
+
+-- the lists are long enough, and no difference leaves its width
+pub record Weighable (n m : ℕ) (period : ℤ) (amounts bases : List ℤ) : Type 0 where
+  pub few : Few n m
+  pub in-amounts : allPlaces n m ≤ length amounts
+  pub in-bases : m ≤ length bases
+  pub fits : (p : ℕ) → p < m → SFits w32 (getD bases p (pos 0) -ℤ period)
+
+-- the m places from `fixed` on have their amounts at the period, of which the first k are written so far, and every other place is as it was
+pub record WeighedBelow (fixed m : ℕ) (period : ℤ) (bases before after : List ℤ) (k : ℕ) : Type 0 where
+  pub long : length after ≡ length before
+  pub same : (e : ℕ) → e < fixed → getD after e (pos 0) ≡ getD before e (pos 0)
+  pub rest : (e : ℕ) → fixed + m ≤ e → getD after e (pos 0) ≡ getD before e (pos 0)
+  pub new : (p : ℕ) → p < k → getD after (fixed + p) (pos 0) ≡ getD bases p (pos 0) -ℤ period
+
+abbrev pub Weighed : ℕ → ℕ → ℤ → List ℤ → List ℤ → List ℤ → Type 0
+Weighed fixed m period bases before after = WeighedBelow fixed m period bases before after m

@@ -1,15 +1,28 @@
-// One arrow written at place e.
+// One rule written at place e.
 ghost use mathlib.Core.Path.{_≡_};
-ghost use Prim.Native.Nat.{_≤_, _<_};
+ghost use Prim.Native.Nat.{_<_};
 ghost use lib.ListN.{length, set};
-ghost use Rattle.arrows.specs.Filling.{Put};
+ghost use Rattle.arrows.specs.Filled.{lists};
+ghost use Rattle.arrows.specs.Filling.{Writable, Put};
 use paper::Delay;
 
-// Its ends.
-pub fn join(tail: &mut [u16], head: &mut [u16], e: usize, t: usize, h: usize)
-    requires { ⌜ (e < length (now tail)) × (e < length (now head)) × (t ≤ 256) × (h ≤ 256) ⌝ }
-    ensures { λ _. ⌜ (now (tail .exit) ≡ set (now (tail .entry)) e t) × (now (head .exit) ≡ set (now (head .entry)) e h) ⌝ }
+// Its kind and number, and its arrow's ends.
+pub fn rule(
+    kind: &mut [u8],
+    number: &mut [u16],
+    tail: &mut [u16],
+    head: &mut [u16],
+    e: usize,
+    k: u8,
+    i: usize,
+    t: usize,
+    h: usize,
+)
+    requires { ⌜ Writable (lists (now kind) (now number) (now tail) (now head)) e i t h ⌝ }
+    ensures { λ _. ⌜ Put (lists (now (kind .entry)) (now (number .entry)) (now (tail .entry)) (now (head .entry))) e k i t h (lists (now (kind .exit)) (now (number .exit)) (now (tail .exit)) (now (head .exit))) ⌝ }
 {
+    kind[e] = k;
+    number[e] = i as u16;
     tail[e] = t as u16;
     head[e] = h as u16;
 }
@@ -21,21 +34,4 @@ pub fn weigh(amount: &mut [i32], e: usize, d: Delay)
 {
     let w = d.0;
     amount[e] = w;
-}
-
-// Both.
-pub fn arrow(
-    tail: &mut [u16],
-    head: &mut [u16],
-    amount: &mut [i32],
-    e: usize,
-    t: usize,
-    h: usize,
-    d: Delay,
-)
-    requires { ⌜ (e < length (now tail)) × (e < length (now head)) × (e < length (now amount)) × (t ≤ 256) × (h ≤ 256) ⌝ }
-    ensures { λ _. ⌜ Put (now (tail .entry)) (now (head .entry)) (now (amount .entry)) e t h (d .0) (now (tail .exit)) (now (head .exit)) (now (amount .exit)) ⌝ }
-{
-    join(tail, head, e, t, h);
-    weigh(amount, e, d);
 }

@@ -55,8 +55,8 @@ fn schedule(file: &mut [u8], out: &mut [u8]) -> bool {
     fill(out);
     let o = skew::schedule::schedule(file, out);
     report(
-        number_of(skew::codes::outcome_number(o)),
-        place_of(skew::codes::outcome_place(o)),
+        number_of(paper::codes::outcome_number(o)),
+        place_of(paper::codes::outcome_place(o)),
     );
     io::write_all(STDOUT_FILENO, out);
     true
@@ -66,8 +66,7 @@ fn said(r: Reply) -> i32 {
     match r {
         Reply::Yes => 1,
         Reply::No => 0,
-        Reply::File(_) => 0,
-        Reply::Question => 0,
+        Reply::Refused(_) => 0,
     }
 }
 
@@ -84,8 +83,8 @@ fn ask(file: &mut [u8], head: &[u8; 24]) -> bool {
         whole::number(head, 16),
     );
     report(
-        number_of(skew::codes::reply_number(r)),
-        place_of(skew::codes::reply_place(r)),
+        number_of(paper::codes::reply_number(r)),
+        place_of(paper::codes::reply_place(r)),
     );
     let mut last = [0u8; 4];
     whole::put_number(&mut last, 0, said(r));

@@ -1,6 +1,3 @@
-pub mod Decimal
-pub mod Signs
-pub mod Runs
 pub mod Lines
 pub mod Answers
 pub mod Sample

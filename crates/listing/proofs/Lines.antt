@@ -1,5 +1,5 @@
--- Lines: a line put together from its parts, lines one after the other, and the words of the kinds.
-use mathlib.Core.Path.{_≡_, refl, sym, ap, _∙_}
+-- Lines: what stands from the start on stands at the front; a line put together from its parts, lines one after the other, and the words of the kinds.
+use mathlib.Core.Path.{_≡_, refl, sym, ap, subst, _∙_}
 use mathlib.Core.List.{List, [], _∷_, _++_, append-nil}
 use Prim.Native.Nat.{ℕ, suc, _+_, _*_, _≤_, _<_}
 use native.Mathlib.Omega.{arith}
@@ -12,10 +12,20 @@ use mir.Syntax.{w32}
 use mir.Val.{SFits}
 use Rattle.whole.specs.Four.{numberAt}
 use Rattle.whole.proofs.Lin.{lin, minus, fits-between}
+use Rattle.paper.specs.declared.Outcome.{Outcome}
 use Rattle.paper.specs.File.{natural}
-use Rattle.listing.specs.Decimal.{decimal, whole}
-use Rattle.listing.specs.Text.{Written, line, refusedLine, latencyLine, latencyLines, entryLines, loopLines, kindWord, periodWord, setupWord, holdWord, lowWord, highWord, ceiling, entries, answeredText}
-use Rattle.listing.proofs.Runs.{and-then, and-byte, named, nothing, long}
+use Rattle.paper.specs.Output.{Front}
+use Rattle.paper.proofs.OutputLaws.{stored-front}
+use Rattle.text.specs.Decimal.{decimal, whole}
+use Rattle.text.specs.Written.{Written}
+use Rattle.listing.specs.Text.{line, latencyLine, latencyLines, entryLines, loopLines, kindWord, periodWord, setupWord, holdWord}
+use Rattle.listing.specs.Text.{lowWord, highWord, ceiling, entries, refused, answeredText, textOf}
+use Rattle.text.proofs.Runs.{and-then, and-byte, named, nothing, long}
+
+pub front : {before after bytes : List ℕ} {end : ℕ} → Written before 0 bytes after end → length bytes ≤ length before
+    → (Front bytes before after) × (end ≡ length bytes)
+front {before} {after} {bytes} {end} w h =
+    (w .text ∙ stored-front bytes before h, let p = w .place in omega arith)
 
 -- a word, a number and a newline
 pub line-written : {l m k word : List ℕ} {at i j : ℕ} {z y : ℤ} → Written l at word m i → Written m i (whole y) k j → y ≡ z
@@ -125,11 +135,22 @@ module _ (answer before one two : List ℕ) (i j n k : ℕ) (period : ℤ)
   with-loop h last three m e u =
       rw (← some, ← counted, ← at-period, ne-eqb k 0 h, ← e) (and-then (and-then w v) u)
 
-pub looped-written : (file answer before one two : List ℕ) (i j k number : ℕ) (period : ℤ)
+pub looped-written : (file answer before first one two : List ℕ) (i j k : ℕ) (period : ℤ)
     → pos k ≡ numberAt answer 10 → period ≡ ceiling file
-    → Written before 0 (refusedLine number 0) one i → Written one i (loopLines period answer 14 k) two j
-    → Written before 0 (refusedLine number 0 ++ loopLines (ceiling file) answer 14 (entries answer)) two j
-looped-written file answer before one two i j k number period e f w v = rw (← e, ← f) (and-then w v)
+    → Written before 0 first one i → Written one i (loopLines period answer 14 k) two j
+    → Written before 0 (first ++ loopLines (ceiling file) answer 14 (entries answer)) two j
+looped-written file answer before first one two i j k period e f w v = rw (← e, ← f) (and-then w v)
+
+-- ---- the text of an outcome that is known
+
+-- the line of the refusal and then the loop
+abbrev pub looped-text : List ℕ → List ℕ → Outcome → List ℕ
+looped-text file answer o = refused o ++ loopLines (ceiling file) answer 14 (entries answer)
+
+-- what is the text of the outcome that o is, is the text of o
+pub told-text : (file answer : List ℕ) (body : Outcome → List ℕ) {o known : Outcome} → o ≡ known → body known ≡ textOf file known answer
+    → body o ≡ textOf file o answer
+told-text file answer body e h = subst (λ y. body y ≡ textOf file y answer) (sym e) h
 
 -- ---- counts
 

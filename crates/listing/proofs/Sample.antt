@@ -5,10 +5,11 @@ use Prim.Native.Nat.{ℕ}
 use lib.IntN.{pos, negsuc}
 use Rattle.whole.specs.Four.{numberAt, wordAt, signedOf, wordOf, bytesOf, four}
 use Rattle.paper.specs.declared.Fault.the-variants as fault
+use Rattle.paper.specs.declared.Refusal.the-variants as refusal
 use Rattle.paper.specs.declared.Outcome.the-variants as outcome
 use Rattle.paper.specs.Rules.{Rule}
 use Rattle.paper.specs.Output.{skewRecord, latencyRecord, entryRecord}
-use Rattle.listing.specs.Decimal.{digits, decimal, whole}
+use Rattle.text.specs.Decimal.{digits, decimal, whole}
 use Rattle.listing.specs.Text.{textOf, answeredText, latencyLines, entryLines, kindWord}
 
 -- period 9, latencies 0, 1 and -1, and the loop of setup 0 and hold 0: 52 bytes
@@ -37,7 +38,7 @@ unfolding answerOfA answeredText latencyLines entryLines kindWord digits decimal
 listing-of-A file rest = refl
 
 -- refused 6 1027
-pub listing-of-a-path : (file answer : List ℕ) → textOf file (outcome.File (fault.Path 1027)) answer
+pub listing-of-a-path : (file answer : List ℕ) → textOf file (outcome.Refused (refusal.File (fault.Path 1027))) answer
     ≡ 114 ∷ 101 ∷ 102 ∷ 117 ∷ 115 ∷ 101 ∷ 100 ∷ 32 ∷ 54 ∷ 32 ∷ 49 ∷ 48 ∷ 50 ∷ 55 ∷ 10 ∷ []
 unfolding digits decimal
 listing-of-a-path file answer = refl

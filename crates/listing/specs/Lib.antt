@@ -1,4 +1,3 @@
 -- The text of a listing.
-pub mod Decimal
 pub mod Text
 pub mod Listable

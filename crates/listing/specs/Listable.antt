@@ -31,7 +31,7 @@ pub record LoopAnswer (file answer : List ℕ) : Type 0 where
 
 abbrev pub Counted : List ℕ → Outcome → List ℕ → Type 0
 Counted file outcome.Answered answer = FullAnswer answer
-Counted file (outcome.File x) answer = Unit {0}
+Counted file (outcome.Refused x) answer = Unit {0}
 Counted file outcome.Room answer = Unit {0}
 Counted file outcome.NoPeriod answer = LoopAnswer file answer
 Counted file outcome.NoneToCeiling answer = LoopAnswer file answer

@@ -5,18 +5,15 @@
 -- for 8 and 9 the `loop` line with the ceiling and the entries."
 use mathlib.Core.List.{List, [], _∷_, _++_}
 use mathlib.Core.Bool.{cond}
-use mathlib.Core.Path.{_≡_}
 use Prim.Native.Nat.{ℕ, zero, suc, _+_, _*_}
 use lib.IntN.{ℤ, pos, negsuc, _-ℤ_}
 use lib.Dec.{eqb}
-use lib.ListN.{length}
-use lib.Seq.{sets}
 use Rattle.whole.specs.Four.{numberAt}
 use Rattle.paper.specs.declared.Outcome.{Outcome}
 use Rattle.paper.specs.declared.Outcome.the-variants as outcome
 use Rattle.paper.specs.File.{natural}
-use Rattle.paper.specs.Outcome.{outcomeNumber, outcomePlace}
-use Rattle.listing.specs.Decimal.{decimal, whole}
+use Rattle.paper.specs.Numbers.{outcomeNumber, outcomePlace}
+use Rattle.text.specs.Decimal.{decimal, whole}
 
 -- ---- the words, each with the space behind it, in ASCII
 
@@ -111,12 +108,7 @@ answeredText answer =
 
 abbrev pub textOf : List ℕ → Outcome → List ℕ → List ℕ
 textOf file outcome.Answered answer = answeredText answer
-textOf file (outcome.File x) answer = refused (outcome.File x)
+textOf file (outcome.Refused x) answer = refused (outcome.Refused x)
 textOf file outcome.Room answer = refused outcome.Room
 textOf file outcome.NoPeriod answer = refused outcome.NoPeriod ++ loopLines (ceiling file) answer 14 (entries answer)
 textOf file outcome.NoneToCeiling answer = refused outcome.NoneToCeiling ++ loopLines (ceiling file) answer 14 (entries answer)
-
--- ---- a part of the text: the bytes stand from a place on, every other byte is as before, and the next place is the one behind them
-pub record Written (before : List ℕ) (at : ℕ) (bytes after : List ℕ) (next : ℕ) : Type 0 where
-  pub text : after ≡ sets before at bytes
-  pub place : next ≡ at + length bytes

@@ -1,68 +1,21 @@
 // The text of a listing, from a file, an outcome and the answer's bytes into a lent buffer. Each writer puts its bytes at a place and
-// returns the place behind them; its contract is `Written`, of specs/Text.antt.
+// returns the place behind them; its contract is `Written`, of the crate text, and a bound on the place behind the bytes.
 ghost use mathlib.Core.Path.{_≡_};
 ghost use mathlib.Core.List.{_++_};
 ghost use Prim.Native.Nat.{_+_, _*_, _≤_, _<_};
-ghost use lib.IntN.{pos, natAbs};
+ghost use lib.IntN.{pos};
 ghost use lib.ListN.{length};
 ghost use lib.Signed.{_≤ℤ_};
 ghost use Rattle.whole.specs.Four.{numberAt};
 ghost use Rattle.paper.specs.Output.{Front};
-ghost use Rattle.paper.specs.Outcome.{faultNumber, faultPlace};
-ghost use Rattle.listing.specs.Decimal.{decimal, whole};
-ghost use Rattle.listing.specs.Text.{Written, line, latencyLine, refusedLine, latencyLines, entryLines, loopLines, kindWord, ceiling, entries, answeredText, textOf};
+ghost use Rattle.text.specs.Written.{Written};
+ghost use Rattle.listing.specs.Text.{line, latencyLine, refusedLine, latencyLines, entryLines, loopLines, kindWord, ceiling, entries, refused, answeredText, textOf};
 ghost use Rattle.listing.specs.Listable.{FullAnswer, LoopAnswer, Listable};
-use paper::Fault;
 use paper::Outcome;
-
-fn put_text(text: &mut [u8], at: usize, s: &[u8]) -> usize
-    requires { ⌜ at + length (now s) ≤ length (now text) ⌝ }
-    ensures { λ r. ⌜ Written (now (text .entry)) at (now (s .entry)) (now (text .exit)) r ⌝ }
-{
-    let mut i = 0;
-    while i < s.len() {
-        text[at + i] = s[i];
-        i += 1;
-    }
-    at + i
-}
-
-// The digits of a number: those of its tenth part first, and then the last one.
-fn put_digits(text: &mut [u8], at: usize, n: u64) -> usize
-    requires { ⌜ at + length (decimal n) ≤ length (now text) ⌝ }
-    ensures { λ r. ⌜ Written (now (text .entry)) at (decimal n) (now (text .exit)) r ⌝ }
-{
-    if n < 10 {
-        text[at] = (48 + n) as u8;
-        return at + 1;
-    }
-    let next = put_digits(text, at, n / 10);
-    text[next] = (48 + n % 10) as u8;
-    next + 1
-}
-
-fn magnitude(z: i32) -> u64
-    ensures { λ r. ⌜ r ≡ natAbs z ⌝ }
-{
-    if z < 0 {
-        (0 - z as i64) as u64
-    } else {
-        z as u64
-    }
-}
-
-// A number takes at most a minus and ten digits. From here on each contract also bounds the place behind the bytes.
-fn put_whole(text: &mut [u8], at: usize, z: i32) -> usize
-    requires { ⌜ at + 11 ≤ length (now text) ⌝ }
-    ensures { λ r. ⌜ (Written (now (text .entry)) at (whole z) (now (text .exit)) r) × (r ≤ at + 11) ⌝ }
-{
-    let n = magnitude(z);
-    if z < 0 {
-        text[at] = b'-';
-        return put_digits(text, at + 1, n);
-    }
-    put_digits(text, at, n)
-}
+use paper::codes;
+use text::put_digits;
+use text::put_text;
+use text::put_whole;
 
 // A word, a number and a newline.
 fn put_line(text: &mut [u8], at: usize, word: &[u8], z: i32) -> usize
@@ -87,17 +40,27 @@ fn put_latency(text: &mut [u8], at: usize, i: usize, z: i32) -> usize
     end + 1
 }
 
-// The only line that stands at the text's start alone: its place may be any number of 64 bits.
-fn put_refused(text: &mut [u8], number: u64, place: usize) -> usize
-    requires { ⌜ (40 ≤ length (now text)) × (number < 10) ⌝ }
-    ensures { λ r. ⌜ (Written (now (text .entry)) 0 (refusedLine number place) (now (text .exit)) r) × (r ≤ 32) ⌝ }
+// The only line that stands at the text's start alone: its number may be any of 32 bits, its place any of 64.
+fn put_refused(text: &mut [u8], number: u32, place: usize) -> usize
+    requires { ⌜ 40 ≤ length (now text) ⌝ }
+    ensures { λ r. ⌜ (Written (now (text .entry)) 0 (refusedLine number place) (now (text .exit)) r) × (r ≤ 40) ⌝ }
 {
     let name = put_text(text, 0, b"refused ");
-    let first = put_digits(text, name, number);
+    let first = put_digits(text, name, number as u64);
     text[first] = b' ';
     let end = put_digits(text, first + 1, place as u64);
     text[end] = b'\n';
     end + 1
+}
+
+// The line of an outcome that is no answer.
+fn put_refusal(text: &mut [u8], o: Outcome) -> usize
+    requires { ⌜ 40 ≤ length (now text) ⌝ }
+    ensures { λ r. ⌜ (Written (now (text .entry)) 0 (refused o) (now (text .exit)) r) × (r ≤ 40) ⌝ }
+{
+    let number = codes::outcome_number(o);
+    let place = codes::outcome_place(o);
+    put_refused(text, number, place)
 }
 
 fn put_entry(text: &mut [u8], at: usize, kind: i32, number: i32) -> usize
@@ -181,31 +144,17 @@ fn answered(answer: &[u8], text: &mut [u8]) -> usize
 }
 
 // A refusal that shows a loop which contradicts itself at the ceiling.
-fn looped(file: &[u8], answer: &[u8], number: u64, text: &mut [u8]) -> usize
+fn looped(file: &[u8], answer: &[u8], o: Outcome, text: &mut [u8]) -> usize
     requires { ⌜ LoopAnswer (now file) (now answer) ⌝ }
-    requires { ⌜ (16384 ≤ length (now text)) × (number < 10) ⌝ }
+    requires { ⌜ 16384 ≤ length (now text) ⌝ }
     ensures { λ r. ⌜ (Written (now (text .entry)) 0
-        (refusedLine number 0 ++ loopLines (ceiling (now (file .entry))) (now (answer .entry)) 14 (entries (now (answer .entry))))
+        (refused o ++ loopLines (ceiling (now (file .entry))) (now (answer .entry)) 14 (entries (now (answer .entry))))
         (now (text .exit)) r) × (r ≤ 16384) ⌝ }
 {
     let k = count(answer, 10);
     let at = whole::number(file, 14);
-    let next = put_refused(text, number, 0);
+    let next = put_refusal(text, o);
     put_loop(text, next, at, answer, 14, k)
-}
-
-fn faulty(x: Fault, text: &mut [u8]) -> usize
-    requires { ⌜ 16384 ≤ length (now text) ⌝ }
-    ensures { λ r. ⌜ (Written (now (text .entry)) 0 (refusedLine (faultNumber x) (faultPlace x)) (now (text .exit)) r) × (r ≤ 16384) ⌝ }
-{
-    match x {
-        Fault::Header => put_refused(text, 1, 0),
-        Fault::Counts => put_refused(text, 2, 0),
-        Fault::Length => put_refused(text, 3, 0),
-        Fault::Ranges => put_refused(text, 4, 0),
-        Fault::Register(i) => put_refused(text, 5, i),
-        Fault::Path(p) => put_refused(text, 6, p),
-    }
 }
 
 fn write(file: &[u8], answer: &[u8], o: Outcome, text: &mut [u8]) -> usize
@@ -214,10 +163,10 @@ fn write(file: &[u8], answer: &[u8], o: Outcome, text: &mut [u8]) -> usize
 {
     match o {
         Outcome::Answered => answered(answer, text),
-        Outcome::File(x) => faulty(x, text),
-        Outcome::Room => put_refused(text, 7, 0),
-        Outcome::NoPeriod => looped(file, answer, 8, text),
-        Outcome::NoneToCeiling => looped(file, answer, 9, text),
+        Outcome::Refused(_) => put_refusal(text, o),
+        Outcome::Room => put_refusal(text, o),
+        Outcome::NoPeriod => looped(file, answer, o, text),
+        Outcome::NoneToCeiling => looped(file, answer, o, text),
     }
 }
 

@@ -3,28 +3,27 @@
 use mathlib.Core.Path.{_≡_}
 use mathlib.Core.Bool.{true}
 use mathlib.Core.List.{List}
-use Prim.Native.Nat.{ℕ, zero, suc, _+_, _-_, _<_}
+use Prim.Native.Nat.{ℕ, zero, suc, _<_}
 use native.Mathlib.Omega.{arith}
 use lib.IntN.{ℤ, pos, _+ℤ_}
 use lib.Signed.{_≤ℤ_}
 use Rattle.whole.proofs.Lin.{lin, negs}
-use Rattle.loops.specs.Arrows.{Arrows, Sound, Windowed, amount}
+use Rattle.loops.specs.Arrows.{Arrows, Sound, Highs, amount}
 use Rattle.loops.specs.Model.{at, round, allRooted, settled, rowAfter, predsAfter}
 use Rattle.loops.specs.Forest.{Tight, gap}
 use Rattle.loops.proofs.Kept.{round-asks, round-loud}
 use Rattle.loops.proofs.Settle.{host-still, settled-above, rows-from}
 use Rattle.loops.proofs.Gap.{gap-lt}
 
-module _ (Γ : Arrows) (H : ℕ) (s : Sound Γ) (w : Windowed Γ H) where
+module _ (Γ : Arrows) (H : ℕ) (s : Sound Γ) (w : Highs Γ H) where
   -- The high arrow of v asks of the host a v less at most H, and the host left the round at 0.
   pub entered-high : (a : List ℤ) (p : List ℕ) → Tight Γ a p → allRooted Γ (predsAfter Γ a p) ≡ true → (v : ℕ) → v < Γ .registers → at a v ≤ℤ pos H
   entered-high a p t r zero b = let e = t .host in omega lin
   entered-high a p t r (suc v) b =
-      let o = w .window (suc v) (omega arith) b in
-      let e = (Γ .registers - 1) + (suc v - 1) in
-      let met : (at a (suc v) +ℤ amount Γ e) ≤ℤ at (rowAfter Γ a p) 0 = rw (o .high-leaves, o .high-reaches) at (round-asks Γ a p s t e (o .high-exists)) in
+      let o = w (suc v) (omega arith) b in
+      let met : (at a (suc v) +ℤ amount Γ (o .place)) ≤ℤ at (rowAfter Γ a p) 0 = rw (o .leaves, o .reaches) at (round-asks Γ a p s t (o .place) (o .exists)) in
       let still = host-still Γ a p s t r in
-      let most = o .high-most in
+      let most = o .most in
       omega (lin, negs (pos H))
 
   -- No register falls, and one that was at or below H rose.

@@ -2,11 +2,11 @@
 -- Three registers, with their windows from 0 to 10: arrows 0 and 1 are the lows, 2 and 3 the highs, 4 goes from 1 to 2 and 5 from 2 to 1.
 use mathlib.Core.Path.{_≡_, refl}
 use mathlib.Core.List.{[], _∷_}
-use Prim.Native.Nat.{ℕ, zero, suc, _<_}
+use Prim.Native.Nat.{ℕ, zero, suc, _-_, _<_}
 use native.Mathlib.Omega.{arith}
 use lib.IntN.{ℤ, pos, negsuc}
 use Rattle.whole.proofs.Lin.{lin}
-use Rattle.loops.specs.Arrows.{Arrows, Sound, Windowed, Window, tail, head}
+use Rattle.loops.specs.Arrows.{Arrows, Sound, Lows, High, Highs, tail, head}
 use Rattle.loops.specs.Model.{table, pass, step, round, worth, rooted, rootedBelow, settled, back, trail, around, lowest, strayBelow}
 use Rattle.loops.specs.Model.{firstTime, firstRow, firstPred, firstPreds, Ending, Rested, Circled, relax}
 
@@ -20,9 +20,13 @@ three to fro = record {
   amounts = pos 0 ∷ pos 0 ∷ negsuc 9 ∷ negsuc 9 ∷ to ∷ fro ∷ [];
 }
 
+-- where the low arrow of register v stands
+abbrev lowPlace : ℕ → ℕ
+lowPlace v = v - 1
+
 -- from the first row, with fuel enough
 abbrev relaxed : Arrows → Ending
-relaxed Γ = relax Γ 30 (firstRow Γ) (firstPreds Γ (Γ .count))
+relaxed Γ = relax Γ 30 (firstRow Γ lowPlace) (firstPreds Γ lowPlace (Γ .count))
 
 -- register 2 has to lie 5 above register 1, and 1 no more than 6 below 2
 rests : relaxed (three (pos 5) (negsuc 5)) ≡ Rested (pos 0 ∷ pos 0 ∷ pos 5 ∷ [])
@@ -61,27 +65,23 @@ three-reaches to fro (suc (suc (suc (suc (suc (suc e)))))) q = absurd (omega ari
 three-sound : (to fro : ℤ) → Sound (three to fro)
 three-sound to fro = record { some = omega arith; leaves = three-leaves to fro; reaches = three-reaches to fro }
 
-three-window : (to fro : ℤ) (v : ℕ) → 0 < v → v < 3 → Window (three to fro) 10 v
-three-window to fro zero z q = absurd (omega arith)
-three-window to fro (suc zero) z q = record {
-  low-exists = omega arith;
-  low-leaves = refl;
-  low-reaches = refl;
-  high-exists = omega arith;
-  high-leaves = refl;
-  high-reaches = refl;
-  high-most = omega lin;
-}
-three-window to fro (suc (suc zero)) z q = record {
-  low-exists = omega arith;
-  low-leaves = refl;
-  low-reaches = refl;
-  high-exists = omega arith;
-  high-leaves = refl;
-  high-reaches = refl;
-  high-most = omega lin;
-}
-three-window to fro (suc (suc (suc v))) z q = absurd (omega arith)
+three-lows : (to fro : ℤ) → Lows (three to fro) lowPlace
+three-lows to fro = record { exists = λ v z b. omega arith; leaves = leaves; reaches = reaches }
+  where
+    leaves : (v : ℕ) → 0 < v → v < 3 → tail (three to fro) (lowPlace v) ≡ 0
+    leaves zero z b = absurd (omega arith)
+    leaves (suc zero) z b = refl
+    leaves (suc (suc zero)) z b = refl
+    leaves (suc (suc (suc v))) z b = absurd (omega arith)
 
-three-windowed : (to fro : ℤ) → Windowed (three to fro) 10
-three-windowed to fro = record { window = three-window to fro }
+    reaches : (v : ℕ) → 0 < v → v < 3 → head (three to fro) (lowPlace v) ≡ v
+    reaches zero z b = absurd (omega arith)
+    reaches (suc zero) z b = refl
+    reaches (suc (suc zero)) z b = refl
+    reaches (suc (suc (suc v))) z b = absurd (omega arith)
+
+three-highs : (to fro : ℤ) → Highs (three to fro) 10
+three-highs to fro zero z q = absurd (omega arith)
+three-highs to fro (suc zero) z q = record { place = 2; exists = omega arith; leaves = refl; reaches = refl; most = omega lin }
+three-highs to fro (suc (suc zero)) z q = record { place = 3; exists = omega arith; leaves = refl; reaches = refl; most = omega lin }
+three-highs to fro (suc (suc (suc v))) z q = absurd (omega arith)

@@ -1,7 +1,7 @@
 -- The period by its loops, for every network whose paths join registers: the answered period is the larger of the floor and the greatest
--- need of any loop, and such a period is answered where the ceiling allows it. Rests on `Feasible`.
+-- need of any loop, and such a period is answered where the ceiling allows it. Rests on `Rules`.
 use mathlib.Core.Path.{_≡_}
-use mathlib.Core.Logic.{inl, inr}
+use mathlib.Core.Logic.{_⊎_, inl, inr}
 use mathlib.Core.List.{List}
 use Prim.Native.Nat.{ℕ, _-_, _≤_, _<_}
 use native.Mathlib.Omega.{arith}
@@ -11,12 +11,12 @@ use lib.Signed.{_≤ℤ_, _<ℤ_}
 use Rattle.whole.proofs.Lin.{lin}
 use Rattle.paper.specs.Network.{Network}
 use Rattle.paper.specs.Rules.{Rule}
-use Rattle.paper.specs.Schedule.{IsLoop, Refutes, Answer, setups, need}
+use Rattle.paper.specs.Schedule.{IsLoop, Contradicts, Refutes, Answer, setups, need}
 use Rattle.paper.specs.Refusals.{Scheduled, NoPeriod}
 use Rattle.paper.proofs.LoopLaws.{contradicts-below-need, contradicts-always}
 use Rattle.loops.specs.Layout.{Joined}
-use Rattle.loops.specs.Needs.{GreatestNeed, FloorOrNeed}
-use Rattle.loops.proofs.Feasible.{LeastOrLoop, schedule-bars-loop, free-loop-no-period, least-or-refutes}
+use Rattle.loops.specs.Needs.{LeastSchedule, GreatestNeed, FloorOrNeed}
+use Rattle.loops.proofs.Rules.{schedule-bars-loop, least-or-refutes}
 
 -- a period that is not below z is at least z
 reaches : (z : ℤ) (P : ℕ) → (pos P <ℤ z → ⊥) → z ≤ℤ pos P
@@ -27,7 +27,15 @@ reaches (pos n) P h = go (decLt P n)
     go (no l) = omega lin
 reaches (negsuc n) P h = omega lin
 
+-- the least schedule at P, or a loop that contradicts itself at P
+abbrev LeastOrLoop : Network → ℕ → Type 0
+LeastOrLoop N P = ((x : ℕ → ℤ) × LeastSchedule N P x) ⊎ ((l : List Rule) × Refutes N P l)
+
 module _ (N : Network) where
+  -- a loop without setup rules that contradicts itself at one period does so at all of them, and leaves none with a schedule
+  free-loop-no-period : (l : List Rule) → IsLoop N l → setups l ≡ 0 → (P : ℕ) → Contradicts N P l → NoPeriod N
+  free-loop-no-period l i z P c Q b s = schedule-bars-loop N Q s l i (contradicts-always N P Q l z .0 c)
+
   -- a period with a schedule is at least the need of every loop, for below its need a loop contradicts itself
   pub need-enough : (P : ℕ) → Scheduled N P → (l : List Rule) → IsLoop N l → 0 < setups l → need N l ≤ℤ pos P
   need-enough P s l i k = reaches (need N l) P (λ b. schedule-bars-loop N P s l i (contradicts-below-need N P l k .1 b))

@@ -1,22 +1,16 @@
 -- Where the rules stand: every place below the count holds a rule that exists, and every rule that exists stands at its place; those that
--- do not know the period stand in the prefix. So arrows laid out by the network are sound and have their windows. Rests on `Table`.
+-- do not know the period stand in the prefix. So the paper's rules are a family that is laid out. Rests on nothing.
 use mathlib.Core.Path.{_≡_, refl, ap, _∙_}
-use mathlib.Core.List.{[], _∷_}
 use Prim.Native.Nat.{ℕ, _+_, _-_, _*_, _≤_, _<_}
 use native.Mathlib.Omega.{arith}
 use native.Mathlib.Decide.{decLt}
-use lib.IntN.{pos}
-use lib.Signed.{_≤ℤ_}
 use borrow.Author.Tests.{lt-ltb, le-ltb}
-use Rattle.whole.proofs.Lin.{lin, negs}
 use Rattle.paper.specs.Network.{Network}
-use Rattle.paper.specs.Rules.{Rule, Setup, Hold, Low, High, Exists}
-use Rattle.paper.specs.Rules.{tail as ruleTail, head as ruleHead, amount as ruleAmount}
-use Rattle.paper.specs.Schedule.{setups}
+use Rattle.paper.specs.Rules.{Rule, Setup, Hold, Low, High, Exists, tail, head}
 use Rattle.paper.proofs.Legal.{Legal}
-use Rattle.loops.specs.Arrows.{Arrows, Sound, Window, Windowed}
-use Rattle.loops.specs.Layout.{windows, fixedCount, ruleCount, ruleAt, placeOf, Lays, arrowsOf, Joined}
-use Rattle.loops.proofs.Table.{table-at}
+use Rattle.loops.specs.Family.{Row, Framed, Layout, fixedGraph}
+use Rattle.loops.specs.RuleFamily.{IsFixed, graphOf, rules}
+use Rattle.loops.specs.Layout.{windows, fixedCount, ruleCount, ruleAt, placeOf, Joined}
 
 module _ (N : Network) where
   -- ---- the rule at each place
@@ -59,8 +53,8 @@ module _ (N : Network) where
   rule-exists e b = rule-cases (Exists N) e (λ h. omega arith) (λ g h. omega arith) (λ g h. omega arith) (λ g. omega arith)
 
   -- the prefix holds no setup rule
-  pub rule-fixed : (e : ℕ) → e < fixedCount N → setups (ruleAt N e ∷ []) ≡ 0
-  rule-fixed e b = rule-cases (λ r. setups (r ∷ []) ≡ 0) e (λ h. refl) (λ g h. refl) (λ g h. refl) (λ g. absurd (omega arith))
+  pub rule-fixed : (e : ℕ) → e < fixedCount N → IsFixed (ruleAt N e)
+  rule-fixed e b = rule-cases IsFixed e (λ h. tt) (λ g h. tt) (λ g h. tt) (λ g. absurd (omega arith))
 
   -- a rule stands at its place
   pub place-rule : (r : Rule) → Exists N r → ruleAt N (placeOf N r) ≡ r
@@ -76,88 +70,79 @@ module _ (N : Network) where
   place-below (High i) h = omega arith
 
   -- and in the prefix where it is no setup rule
-  pub place-fixed : (r : Rule) → Exists N r → setups (r ∷ []) ≡ 0 → placeOf N r < fixedCount N
-  place-fixed (Setup p) h z = absurd (omega arith)
+  pub place-fixed : (r : Rule) → Exists N r → IsFixed r → placeOf N r < fixedCount N
+  place-fixed (Setup p) h z = absurd z
   place-fixed (Hold p) h z = omega arith
   place-fixed (Low i) h z = omega arith
   place-fixed (High i) h z = omega arith
 
-  -- ---- arrows laid out by the network
+  -- ---- so each place has its rule, and each rule its place
+
+  pub rules-row : Row (graphOf N) (ruleAt N) (ruleCount N)
+  rules-row = record { named = rule-exists; found = λ r h. (placeOf N r, place-below r h, place-rule r h) }
+
+  pub fixed-row : Row (fixedGraph (rules N)) (ruleAt N) (fixedCount N)
+  fixed-row = record {
+    named = λ e h. (rule-exists e (omega arith), rule-fixed e h);
+    found = λ r h. (placeOf N r, place-fixed r (h .0) (h .1), place-rule r (h .0));
+  }
+
+  -- ---- the rules' arrows are framed
 
   -- the arrow of a rule that exists joins two registers
-  pub tail-below : Joined N → (r : Rule) → Exists N r → ruleTail N r < N .registers
+  pub tail-below : Joined N → (r : Rule) → Exists N r → tail N r < N .registers
   tail-below j (Setup p) h = j .from p h
   tail-below j (Hold p) h = j .to p h
   tail-below j (Low i) h = j .some
   tail-below j (High i) h = h .1
 
-  pub head-below : Joined N → (r : Rule) → Exists N r → ruleHead N r < N .registers
+  pub head-below : Joined N → (r : Rule) → Exists N r → head N r < N .registers
   head-below j (Setup p) h = j .to p h
   head-below j (Hold p) h = j .from p h
   head-below j (Low i) h = h .1
   head-below j (High i) h = j .some
 
-  -- a rule that does not know the period has one amount
-  pub amount-fixed : (P Q : ℕ) (r : Rule) → setups (r ∷ []) ≡ 0 → ruleAmount N P r ≡ ruleAmount N Q r
-  amount-fixed P Q (Setup p) z = absurd (omega arith)
-  amount-fixed P Q (Hold p) z = refl
-  amount-fixed P Q (Low i) z = refl
-  amount-fixed P Q (High i) z = refl
-
-  -- arrows by a table are laid out
-  pub arrowsOf-lays : (P count : ℕ) → count ≤ ruleCount N → Lays N P (arrowsOf N P count)
-  arrowsOf-lays P count b = record {
-    registers = refl;
-    within = b;
-    tails = λ e h. table-at (λ e. ruleTail N (ruleAt N e)) count e 0 h;
-    heads = λ e h. table-at (λ e. ruleHead N (ruleAt N e)) count e 0 h;
-    amounts = λ e h. table-at (λ e. ruleAmount N P (ruleAt N e)) count e (pos 0) h;
+  abbrev pub rules-framed : Joined N → Framed (graphOf N)
+  rules-framed j = record {
+    some = j .some;
+    leaves-below = tail-below j;
+    reaches-below = head-below j;
+    low = Low;
+    low-here = λ v z b. (z, b);
+    low-leaves = λ v. refl;
+    low-reaches = λ v. refl;
+    high = High;
+    high-here = λ v z b. (z, b);
+    high-leaves = λ v. refl;
+    high-reaches = λ v. refl;
   }
 
-  module _ (P : ℕ) (Γ : Arrows) (y : Lays N P Γ) where
-    pub laid-exists : (e : ℕ) → e < Γ .count → Exists N (ruleAt N e)
-    laid-exists e h = rule-exists e (omega (arith, y .within))
+  abbrev pub fixed-framed : Joined N → Framed (fixedGraph (rules N))
+  fixed-framed j = record {
+    some = j .some;
+    leaves-below = λ r h. tail-below j r (h .0);
+    reaches-below = λ r h. head-below j r (h .0);
+    low = Low;
+    low-here = λ v z b. ((z, b), tt);
+    low-leaves = λ v. refl;
+    low-reaches = λ v. refl;
+    high = High;
+    high-here = λ v z b. ((z, b), tt);
+    high-leaves = λ v. refl;
+    high-reaches = λ v. refl;
+  }
 
-    -- both ends of every arrow are registers
-    pub lays-sound : Joined N → Sound Γ
-    lays-sound j = record {
-      some = rw (y .registers) (j .some);
-      leaves = λ e h. rw (y .registers, y .tails e h) (tail-below j (ruleAt N e) (laid-exists e h));
-      reaches = λ e h. rw (y .registers, y .heads e h) (head-below j (ruleAt N e) (laid-exists e h));
-    }
-
-    -- the prefix is the same at every period
-    pub lays-fixed : (Q : ℕ) → Γ .count ≤ fixedCount N → Lays N Q Γ
-    lays-fixed Q b = record {
-      registers = y .registers;
-      within = y .within;
-      tails = y .tails;
-      heads = y .heads;
-      amounts = λ e h. y .amounts e h ∙ amount-fixed P Q (ruleAt N e) (rule-fixed e (omega arith));
-    }
-
-    -- the low and the high rule of a register above the host stand where its window is looked for
-    pub lays-windowed : (H : ℕ) → ((i : ℕ) → i < N .registers → N .high i ≤ℤ pos H) → 2 * windows N ≤ Γ .count → Windowed Γ H
-    lays-windowed H most b = record { window = window }
-      where
-        window : (v : ℕ) → 0 < v → v < Γ .registers → Window Γ H v
-        window v z l =
-            let r = y .registers in
-            let e : (Γ .registers - 1) + (v - 1) ≡ placeOf N (High v) = omega arith in
-            let low = place-rule (Low v) (omega arith) in
-            let high = place-rule (High v) (omega arith) in
-            let low-in : v - 1 < Γ .count = omega arith in
-            let high-in : placeOf N (High v) < Γ .count = omega arith in
-            let m = most v (omega arith) in
-            record {
-              low-exists = low-in;
-              low-leaves = y .tails (v - 1) low-in ∙ ap (ruleTail N) low;
-              low-reaches = y .heads (v - 1) low-in ∙ ap (ruleHead N) low;
-              high-exists = omega arith;
-              high-leaves = rw e (y .tails (placeOf N (High v)) high-in ∙ ap (ruleTail N) high);
-              high-reaches = rw e (y .heads (placeOf N (High v)) high-in ∙ ap (ruleHead N) high);
-              high-most = rw (e, y .amounts (placeOf N (High v)) high-in, high) (omega (lin, negs (pos H), negs (N .high v)));
-            }
+  pub rules-layout : Joined N → Layout (rules N)
+  rules-layout j = record {
+    framed = rules-framed j;
+    fixed-framed = fixed-framed j;
+    name = ruleAt N;
+    count = ruleCount N;
+    row = rules-row;
+    fixed-name = ruleAt N;
+    fixed-count = fixedCount N;
+    fixed-row = fixed-row;
+  }
 
 -- an accepted network has a host, and its paths join registers
 pub legal-joined : (N : Network) → Legal N → Joined N

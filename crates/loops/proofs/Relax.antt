@@ -1,5 +1,5 @@
 -- A relaxation with fuel above the measure ends, at the least schedule or with a loop that contradicts itself. So, constructively: a schedule
--- exists exactly when no loop contradicts itself. Rests on `Bind`, `Search`, `Kept`, `Contradiction`, `Settle` and `Ends`.
+-- exists exactly when no loop contradicts itself. Rests on `Webs`, `Search`, `Kept`, `Contradiction`, `Settle` and `Ends`.
 use mathlib.Core.Path.{_≡_, refl}
 use mathlib.Core.Logic.{_⊎_, inl, inr, _↔_}
 use mathlib.Core.Bool.{Bool, true, false}
@@ -9,11 +9,11 @@ use native.Mathlib.Omega.{arith}
 use lib.ListN.{length}
 use lib.IntN.{ℤ}
 use Rattle.paper.specs.Chains.{Listed}
-use Rattle.loops.specs.Arrows.{Arrows, Sound, Schedule, Least, Contradicts, Windowed, tail, head}
+use Rattle.loops.specs.Arrows.{Arrows, Sound, web, Schedule, Least, Contradicts, Lows, Highs, tail, head}
 use Rattle.loops.specs.Model.{at, round, rowAfter, predsAfter, rooted, allRooted, stray, settled, circleFrom, circleArrows}
 use Rattle.loops.specs.Model.{firstRow, firstPreds, Ending, Rested, Circled, Unended, relax}
 use Rattle.loops.specs.Forest.{Tight, gap}
-use Rattle.loops.proofs.Bind.{schedule-no-loop}
+use Rattle.loops.proofs.Webs.{schedule-no-loop}
 use Rattle.loops.proofs.Rooted.{stray-some}
 use Rattle.loops.proofs.Search.{circle-found}
 use Rattle.loops.proofs.First.{first-tight}
@@ -65,7 +65,7 @@ module _ (Γ : Arrows) (a : List ℤ) (p : List ℕ) (s : Sound Γ) (t : Tight �
 abbrev pub Either : Arrows → Type 0
 Either Γ = ((row : List ℤ) × Least Γ (at row)) ⊎ ((l : List ℕ) × Contradicts Γ l × Listed (tail Γ) (head Γ) l)
 
-module _ (Γ : Arrows) (H : ℕ) (s : Sound Γ) (w : Windowed Γ H) where
+module _ (Γ : Arrows) (H : ℕ) (s : Sound Γ) (w : Highs Γ H) where
   -- A round raises nothing: the least schedule. It leaves a circle: a contradicting loop. Otherwise the measure falls, and the settled row is
   -- tight again.
   pub relax-ends : (fuel : ℕ) (a : List ℤ) (p : List ℕ) → Tight Γ a p → gap Γ H a < fuel → Ended Γ (relax Γ fuel a p)
@@ -74,25 +74,26 @@ module _ (Γ : Arrows) (H : ℕ) (s : Sound Γ) (w : Windowed Γ H) where
       (λ q r. let less = gap-falls Γ H s w a p t q r in relax-ends fuel (settled Γ (predsAfter Γ a p)) (predsAfter Γ a p) (settled-tight Γ a p s t r) (omega arith))
       (λ q r. let u = stray-some Γ (predsAfter Γ a p) (Γ .registers) r in circled-ends Γ a p s t (stray Γ (predsAfter Γ a p)) (u .0) (u .1))
 
-  -- From the first row, with fuel enough.
-  pub first-ends : (none fuel : ℕ) → Γ .count ≤ none → gap Γ H (firstRow Γ) < fuel → Ended Γ (relax Γ fuel (firstRow Γ) (firstPreds Γ none))
-  first-ends none fuel q g = relax-ends fuel (firstRow Γ) (firstPreds Γ none) (first-tight Γ H none s w q) g
+ended-or : (Γ : Arrows) (r : Ending) → Ended Γ r → Either Γ
+ended-or Γ (Rested row) h = inl (row, h .1)
+ended-or Γ (Circled l) h = inr (l, h .0, h .1)
+ended-or Γ Unended h = absurd h
 
-  ended-or : (r : Ending) → Ended Γ r → Either Γ
-  ended-or (Rested row) h = inl (row, h .1)
-  ended-or (Circled l) h = inr (l, h .0, h .1)
-  ended-or Unended h = absurd h
+module _ (Γ : Arrows) (low : ℕ → ℕ) (H : ℕ) (s : Sound Γ) (lows : Lows Γ low) (highs : Highs Γ H) where
+  -- From the first row, with fuel enough.
+  pub first-ends : (none fuel : ℕ) → Γ .count ≤ none → gap Γ H (firstRow Γ low) < fuel → Ended Γ (relax Γ fuel (firstRow Γ low) (firstPreds Γ low none))
+  first-ends none fuel q g = relax-ends Γ H s highs fuel (firstRow Γ low) (firstPreds Γ low none) (first-tight Γ low none s lows q) g
 
   -- either there is a least schedule, or a loop that contradicts itself
   pub schedule-or-loop : Either Γ
   schedule-or-loop =
-      let fuel = suc (gap Γ H (firstRow Γ)) in
-      ended-or (relax Γ fuel (firstRow Γ) (firstPreds Γ (Γ .count))) (first-ends (Γ .count) fuel (omega arith) (omega arith))
+      let fuel = suc (gap Γ H (firstRow Γ low)) in
+      ended-or Γ (relax Γ fuel (firstRow Γ low) (firstPreds Γ low (Γ .count))) (first-ends (Γ .count) fuel (omega arith) (omega arith))
 
   -- A schedule exists exactly when no loop contradicts itself. Adding a schedule's inequalities around a loop shows the one half; the
   -- relaxation from the first row ends with a schedule or a loop, which shows the other.
   pub schedule-iff-no-loop-arrows : ((x : ℕ → ℤ) × Schedule Γ x) ↔ ((l : List ℕ) → ¬ Contradicts Γ l)
-  schedule-iff-no-loop-arrows = (λ h l c. schedule-no-loop Γ (h .0) l (h .1) c, λ none. go none schedule-or-loop)
+  schedule-iff-no-loop-arrows = (λ h l c. schedule-no-loop (web Γ) (h .0) l (h .1) c, λ none. go none schedule-or-loop)
     where
       go : ((l : List ℕ) → ¬ Contradicts Γ l) → Either Γ → (x : ℕ → ℤ) × Schedule Γ x
       go none (inl r) = (at (r .0), r .1 .schedule)

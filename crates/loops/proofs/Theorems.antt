@@ -1,5 +1,5 @@
--- Schedules, loops and needs of an accepted network, in the paper's words on both sides. Each theorem is a law of `Feasible`, `NeedLaws` or
--- `Climb`, which hold of every network with a host whose paths join registers; an accepted network is one.
+-- Schedules, loops and needs of an accepted network, in the paper's words on both sides. Each theorem is a law of `Rules` or `NeedLaws`,
+-- which hold of every network with a host whose paths join registers; an accepted network is one.
 use mathlib.Core.Path.{_≡_}
 use mathlib.Core.Logic.{_⊎_, _↔_}
 use mathlib.Core.List.{List}
@@ -13,11 +13,10 @@ use Rattle.paper.proofs.Legal.{accepted-legal}
 use Rattle.loops.specs.Layout.{Joined}
 use Rattle.loops.specs.Needs.{GreatestNeed}
 use Rattle.loops.proofs.Places.{legal-joined}
-use Rattle.loops.proofs.Climb.{answered-or-none}
-use Rattle.loops.proofs.Feasible.{scheduled-iff, no-period-is}
+use Rattle.loops.proofs.Rules.{scheduled-iff, no-period-is, answered-or-none}
 use Rattle.loops.proofs.NeedLaws.{answer-greatest-need, greatest-need-answer}
 -- of every network: a schedule at P is one at every longer period
-pub use Rattle.loops.proofs.Feasible.{scheduled-stays}
+pub use Rattle.loops.proofs.Rules.{scheduled-stays}
 
 pub accepted-joined : (f : List ℕ) → Accepted f → Joined (networkOf f)
 accepted-joined f a = legal-joined (networkOf f) (accepted-legal f a)

@@ -1,13 +1,13 @@
--- Arrows in memory: three lists, read by place. What a schedule of such arrows is, which one is the least, and which loop of arrows
--- shows that there is none. The arrows know neither a period nor a kind of rule.
+-- Arrows in memory: three lists, read by place. They know neither a period nor a kind of rule. Schedules and loops of them are those of a
+-- web whose arrows are places.
 use mathlib.Core.Path.{_≡_}
 use mathlib.Core.List.{List}
-use Prim.Native.Nat.{ℕ, _+_, _-_, _<_}
+use Prim.Native.Nat.{ℕ, _<_}
 use lib.ListN.{getD}
-use lib.IntN.{ℤ, pos, negℤ, _+ℤ_}
-use lib.Signed.{_≤ℤ_, _<ℤ_}
-use Rattle.paper.specs.Chains.{All, Loop}
-use Rattle.whole.specs.Sums.{total}
+use lib.IntN.{ℤ, pos, negℤ}
+use lib.Signed.{_≤ℤ_}
+use Rattle.loops.specs.Webs.{Web}
+use Rattle.loops.specs.Webs as webs
 
 -- the registers are the numbers below `registers`, and register 0 is the host; the arrows are the places below `count`
 pub record Arrows : Type 0 where
@@ -40,32 +40,33 @@ pub record Sound (Γ : Arrows) : Type 0 where
   pub leaves : (e : ℕ) → e < Γ .count → tail Γ e < Γ .registers
   pub reaches : (e : ℕ) → e < Γ .count → head Γ e < Γ .registers
 
--- the host is at 0, and every arrow is met
-pub record Schedule (Γ : Arrows) (x : ℕ → ℤ) : Type 0 where
-  pub host : x 0 ≡ pos 0
-  pub meets : (e : ℕ) → e < Γ .count → (x (tail Γ e) +ℤ amount Γ e) ≤ℤ x (head Γ e)
+-- the arrows as a web, an arrow being its place
+abbrev pub web : Arrows → Web ℕ
+web Γ = record { registers = Γ .registers; Here = λ e. e < Γ .count; leaves = tail Γ; reaches = head Γ; asks = amount Γ }
 
--- a schedule, register by register at or below every other
-pub record Least (Γ : Arrows) (x : ℕ → ℤ) : Type 0 where
-  pub schedule : Schedule Γ x
-  pub least : (y : ℕ → ℤ) → Schedule Γ y → (v : ℕ) → v < Γ .registers → x v ≤ℤ y v
+abbrev pub Schedule : Arrows → (ℕ → ℤ) → Type 0
+Schedule Γ = webs.Schedule (web Γ)
 
--- a loop of arrows whose amounts add up to more than 0
-pub record Contradicts (Γ : Arrows) (l : List ℕ) : Type 0 where
-  pub loop : Loop (tail Γ) (head Γ) l
-  pub exist : All (λ e. e < Γ .count) l
-  pub above : pos 0 <ℤ total (amount Γ) l
+abbrev pub Least : Arrows → (ℕ → ℤ) → Type 0
+Least Γ = webs.Least (web Γ)
 
--- register v's window: its low arrow, from the host, and its high arrow, back to the host, which keeps v at or below H
-pub record Window (Γ : Arrows) (H v : ℕ) : Type 0 where
-  pub low-exists : v - 1 < Γ .count
-  pub low-leaves : tail Γ (v - 1) ≡ 0
-  pub low-reaches : head Γ (v - 1) ≡ v
-  pub high-exists : (Γ .registers - 1) + (v - 1) < Γ .count
-  pub high-leaves : tail Γ ((Γ .registers - 1) + (v - 1)) ≡ v
-  pub high-reaches : head Γ ((Γ .registers - 1) + (v - 1)) ≡ 0
-  pub high-most : negℤ (pos H) ≤ℤ amount Γ ((Γ .registers - 1) + (v - 1))
+abbrev pub Contradicts : Arrows → List ℕ → Type 0
+Contradicts Γ = webs.Contradicts (web Γ)
 
--- every register but the host has its window
-pub record Windowed (Γ : Arrows) (H : ℕ) : Type 0 where
-  pub window : (v : ℕ) → 0 < v → v < Γ .registers → Window Γ H v
+-- each register but the host has an arrow from the host, which stands at the place that `low` gives
+pub record Lows (Γ : Arrows) (low : ℕ → ℕ) : Type 0 where
+  pub exists : (v : ℕ) → 0 < v → v < Γ .registers → low v < Γ .count
+  pub leaves : (v : ℕ) → 0 < v → v < Γ .registers → tail Γ (low v) ≡ 0
+  pub reaches : (v : ℕ) → 0 < v → v < Γ .registers → head Γ (low v) ≡ v
+
+-- an arrow from v back to the host that keeps v at or below H
+pub record High (Γ : Arrows) (H v : ℕ) : Type 0 where
+  pub place : ℕ
+  pub exists : place < Γ .count
+  pub leaves : tail Γ place ≡ v
+  pub reaches : head Γ place ≡ 0
+  pub most : negℤ (pos H) ≤ℤ amount Γ place
+
+-- every register but the host has one, wherever it stands
+abbrev pub Highs : Arrows → ℕ → Type 0
+Highs Γ H = (v : ℕ) → 0 < v → v < Γ .registers → High Γ H v

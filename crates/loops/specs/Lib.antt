@@ -1,5 +1,12 @@
+pub mod Webs
 pub mod Arrows
+pub mod Family
+pub mod Climbing
 pub mod Model
 pub mod Forest
+pub mod Shape
+pub mod Begun
+pub mod Names
+pub mod RuleFamily
 pub mod Layout
 pub mod Needs

@@ -141,21 +141,21 @@ circleArrows Γ p s = trail Γ p (circleFrom Γ p s .steps) (circleFrom Γ p s .
 
 -- ---- rounds, one after another
 
--- the host at 0, and every other register at the amount of its low arrow
-unfoldable pub firstTime : Arrows → ℕ → ℤ
-firstTime Γ zero = pos 0
-firstTime Γ (suc e) = amount Γ e
+-- the host at 0, and every other register at the amount of its low arrow, which stands at the place that `low` gives
+unfoldable pub firstTime : Arrows → (ℕ → ℕ) → ℕ → ℤ
+firstTime Γ low zero = pos 0
+firstTime Γ low (suc v) = amount Γ (low (suc v))
 
-unfoldable pub firstRow : Arrows → List ℤ
-firstRow Γ = table (firstTime Γ) 0 (Γ .registers)
+unfoldable pub firstRow : Arrows → (ℕ → ℕ) → List ℤ
+firstRow Γ low = table (firstTime Γ low) 0 (Γ .registers)
 
 -- the host has no pred, and every other register has its low arrow
-unfoldable pub firstPred : ℕ → ℕ → ℕ
-firstPred none zero = none
-firstPred none (suc e) = e
+unfoldable pub firstPred : (ℕ → ℕ) → ℕ → ℕ → ℕ
+firstPred low none zero = none
+firstPred low none (suc v) = low (suc v)
 
-unfoldable pub firstPreds : Arrows → ℕ → List ℕ
-firstPreds Γ none = table (firstPred none) 0 (Γ .registers)
+unfoldable pub firstPreds : Arrows → (ℕ → ℕ) → ℕ → List ℕ
+firstPreds Γ low none = table (firstPred low none) 0 (Γ .registers)
 
 pub data Ending : Type 0 where
   -- no arrow raises the row

@@ -9,8 +9,8 @@ use lib.ListN.{length}
 use lib.Dec.{eqb}
 use Rattle.whole.specs.Four.{numberAt}
 use Rattle.paper.specs.File.{marked, within, windowed, counted, sized, ranged, registers, paths, registerPlace, pathPlace, registerOk, pathOk}
-use Rattle.network.specs.declared.Record.{Record}
-use Rattle.network.specs.Records.{IsRecord}
+use Rattle.records.specs.declared.Record.{Record}
+use Rattle.records.specs.Records.{IsRecord}
 
 pub counted-joined : (f : List ℕ) {n m r : Bool}
     → n ≡ within (pos 1) (pos 256) (numberAt f 2)

@@ -1,20 +1,15 @@
 -- What is read from an accepted file lies in its ranges. All of them fit a machine number by far, which a caller's sums rest on.
-use mathlib.Core.Path.{_≡_, refl}
+use mathlib.Core.Path.{_≡_}
 use mathlib.Core.List.{List}
 use Prim.Native.Nat.{ℕ, _<_}
 use lib.IntN.{pos, negsuc}
 use Rattle.paper.specs.Network.{Network}
-use Rattle.paper.specs.File.{registers, networkOf}
+use Rattle.paper.specs.File.{networkOf}
 use Rattle.paper.specs.Refusals.{Accepted}
 use Rattle.paper.proofs.Legal.{Between, Legal, accepted-legal}
 use Rattle.network.specs.declared.Register.{Register}
 use Rattle.network.specs.declared.Path.{Path}
 use Rattle.network.specs.Records.{IsRegister, IsPath}
-
--- the network's count of registers is the file's
-pub registers-is : (f : List ℕ) → networkOf f .registers ≡ registers f
-unfolding networkOf
-registers-is f = refl
 
 pub record RegisterRanges (r : Register) : Type 0 where
   pub setup : Between (negsuc 99999) (pos 100000) (r .setup .0)

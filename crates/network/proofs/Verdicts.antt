@@ -8,8 +8,10 @@ use Rattle.paper.specs.declared.Verdict.{Verdict}
 use Rattle.paper.specs.declared.Verdict.the-variants as verdict
 use Rattle.paper.specs.Table.{Row, Given}
 use Rattle.paper.specs.Refusals.{faults, Accepted}
-use Rattle.paper.specs.Outcome.{faultNumber, faultPlace, Judged}
-use Rattle.paper.proofs.TableLaws.{given-clear, given-before, given-row, faults-numbered, fault-numbers}
+use Rattle.paper.specs.Numbers.{faultNumber, faultPlace}
+use Rattle.paper.specs.Outcome.{Judged}
+use Rattle.paper.proofs.TableLaws.{given-clear, given-before, given-row, faults-numbered}
+use Rattle.paper.proofs.NumberLaws.{fault-numbers}
 
 pub judged-accepted : (f : List ℕ) (v : Verdict) → Judged f v → v ≡ verdict.Accepted → Accepted f
 judged-accepted f v g e = given-clear (faults f) (faults-numbered f) 0 (rw e at g)

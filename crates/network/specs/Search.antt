@@ -6,7 +6,7 @@ use Prim.Native.Nat.{ℕ, _<_}
 use Rattle.paper.specs.declared.Verdict.{Verdict}
 use Rattle.paper.specs.File.{registers, paths, registerOk, pathOk}
 use Rattle.paper.specs.Table.{Row, Lowest, Given}
-use Rattle.paper.specs.Outcome.{verdictNumber, verdictPlace}
+use Rattle.paper.specs.Numbers.{verdictNumber, verdictPlace}
 use Rattle.network.specs.declared.fault.Found.{Found}
 use Rattle.network.specs.declared.fault.Found.the-variants.{At, Nothing}
 

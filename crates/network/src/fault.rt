@@ -6,11 +6,10 @@ ghost use mathlib.Core.List.{List};
 ghost use Prim.Native.Nat.{ℕ, _+_, _*_, _≤_, _<_};
 ghost use lib.ListN.{length};
 ghost use Rattle.paper.specs.File.{headed, counted, sized, ranged, registers, registerPlace, pathPlace, registerOk, pathOk};
-ghost use Rattle.network.specs.Records.{IsRecord};
+ghost use Rattle.records.specs.Records.{IsRecord};
 ghost use Rattle.network.specs.Search.{Sought};
-use crate::Record;
 use crate::field;
-use crate::read;
+use records::Record;
 
 // What a search for a faulty record finds.
 pub enum Found {
@@ -94,7 +93,7 @@ pub fn lowest_register(file: &[u8], n: usize) -> Found
     let mut i = 0;
     let mut at = 22;
     while i < n {
-        let r = read::record(file, at);
+        let r = records::read(file, at);
         if !register_ok(i, r) {
             return Found::At(i);
         }
@@ -112,7 +111,7 @@ pub fn lowest_path(file: &[u8], n: usize, m: usize) -> Found
     let mut p = 0;
     let mut at = 22 + 18 * n;
     while p < m {
-        let r = read::record(file, at);
+        let r = records::read(file, at);
         if !path_ok(n, r) {
             return Found::At(p);
         }

@@ -9,7 +9,6 @@ ghost use Rattle.network.specs.Search.{RecordsJudged};
 mod fault;
 pub mod field;
 pub mod read;
-pub mod reader;
 
 use fault::Found;
 use paper::Delay;
@@ -23,18 +22,6 @@ pub struct Header {
     pub paths: usize,
     pub floor: i32,
     pub ceiling: i32,
-}
-
-// A record of 18 bytes as it stands in the file: the initial and the last letter of its mark, its four numbers, whatever they stand for, and the place of
-// the next record.
-pub struct Record {
-    pub initial: u8,
-    pub last: u8,
-    pub first: i32,
-    pub second: i32,
-    pub third: i32,
-    pub fourth: i32,
-    pub next: usize,
 }
 
 // Register 0 is the host, whose window is 0 to 0.

@@ -4,13 +4,11 @@ ghost use Prim.Native.Nat.{_+_, _≤_, _<_};
 ghost use lib.ListN.{length};
 ghost use Rattle.paper.specs.File.{networkOf};
 ghost use Rattle.paper.specs.Refusals.{Accepted};
-ghost use Rattle.network.specs.Records.{IsHeader, IsRecord, IsRegister, IsPath};
+ghost use Rattle.network.specs.Records.{IsHeader, IsRegister, IsPath};
 use crate::Header;
 use crate::Path;
-use crate::Record;
 use crate::Register;
 use crate::field;
-use crate::reader;
 use paper::Delay;
 use paper::Latency;
 
@@ -26,19 +24,11 @@ pub fn header(file: &[u8]) -> Header
     }
 }
 
-// The record at a place, through a reader. Every record is read by this function; its contract speaks of no reader.
-pub fn record(file: &[u8], at: usize) -> Record
-    requires { ⌜ at + 18 ≤ length (now file) ⌝ }
-    ensures { λ r. ⌜ IsRecord (now (file .entry)) at r ⌝ }
-{
-    reader::record(reader::open(file, at))
-}
-
 pub fn register(file: &[u8], i: usize) -> Register
     requires { ⌜ Accepted (now file) × (i < networkOf (now file) .registers) ⌝ }
     ensures { λ r. ⌜ IsRegister (networkOf (now (file .entry))) i r ⌝ }
 {
-    let r = record(file, 22 + 18 * i);
+    let r = records::read(file, 22 + 18 * i);
     Register {
         setup: Delay(r.first),
         hold: Delay(r.second),
@@ -52,7 +42,7 @@ pub fn path(file: &[u8], n: usize, p: usize) -> Path
     requires { ⌜ Accepted (now file) × (n ≡ networkOf (now file) .registers) × (p < networkOf (now file) .paths) ⌝ }
     ensures { λ r. ⌜ IsPath (networkOf (now (file .entry))) p r ⌝ }
 {
-    let r = record(file, 22 + 18 * (n + p));
+    let r = records::read(file, 22 + 18 * (n + p));
     Path {
         from: field::natural(r.first),
         to: field::natural(r.second),

@@ -1,13 +1,13 @@
 -- The columns of the table of four rules agree: a slack of at least 0, the inequality of the third column, and arrow with amount say the
--- same. And a longer period takes no schedule away.
+-- same, and the slack is the arrow's. And a longer period takes no schedule away.
 use mathlib.Core.Path.{_≡_}
 use mathlib.Core.Logic.{_↔_}
 use Prim.Native.Nat.{ℕ, _≤_}
-use lib.IntN.{ℤ, pos, _+ℤ_, _-ℤ_}
+use lib.IntN.{ℤ, pos, negℤ, _+ℤ_, _-ℤ_}
 use lib.Signed.{_≤ℤ_}
 use Rattle.whole.proofs.Lin.{lin, plus, minus, negs}
 use Rattle.paper.specs.Network.{Network}
-use Rattle.paper.specs.Rules.{Rule, Setup, Hold, Low, High, Holds, Met, tail, head, base, amount}
+use Rattle.paper.specs.Rules.{Rule, Setup, Hold, Low, High, Holds, Met, tail, head, base, amount, slack}
 use Rattle.paper.specs.Schedule.{Schedule}
 
 -- a difference is at least 0 exactly when what is taken away is at most what it is taken from
@@ -25,7 +25,37 @@ grouped2 a b c = omega (lin, plus a b, plus b c)
 grouped3 : (a b c d : ℤ) → a +ℤ b +ℤ c +ℤ d ≡ a +ℤ (b +ℤ c +ℤ d)
 grouped3 a b c d = simp grouped2
 
+-- so may what is added to the number that is taken from
+taken : (a b c d : ℤ) → (b +ℤ d) -ℤ (a +ℤ c) ≡ b -ℤ (a +ℤ (c -ℤ d))
+taken a b c d = omega (lin, plus b d, plus a c, minus c d, plus a (c -ℤ d), negs (a +ℤ c), negs (a +ℤ (c -ℤ d)))
+
+taken-zero : (b c : ℤ) → b -ℤ c ≡ b -ℤ (pos 0 +ℤ c)
+taken-zero b c = omega (lin, plus (pos 0) c, negs c, negs (pos 0 +ℤ c))
+
+from-zero : (a c : ℤ) → c -ℤ a ≡ pos 0 -ℤ (a +ℤ negℤ c)
+from-zero a c = omega (lin, negs a, negs c, plus a (negℤ c), negs (a +ℤ negℤ c))
+
+-- the latencies at a rule's two ends as the rule reads them: where it does not read the host's, that is 0
+abbrev pub tailRead : Rule → ℤ → ℤ
+tailRead (Setup p) a = a
+tailRead (Hold p) a = a
+tailRead (Low i) a = pos 0
+tailRead (High i) a = a
+
+abbrev pub headRead : Rule → ℤ → ℤ
+headRead (Setup p) b = b
+headRead (Hold p) b = b
+headRead (Low i) b = b
+headRead (High i) b = pos 0
+
 module _ (N : Network) where
+  -- a rule is met by as much as the latency at its head lies above the latency at its tail plus the amount
+  pub slack-is : (P : ℕ) (r : Rule) (a b : ℤ) → slack N P r a b ≡ headRead r b -ℤ (tailRead r a +ℤ amount N P r)
+  slack-is P (Setup p) a b = rw (grouped3 a) (taken a b (base N (Setup p)) (pos P))
+  slack-is P (Hold p) a b = rw (grouped2 a) (taken a b (N .hold (N .to p) +ℤ N .uncertainty p) (N .dmin p))
+  slack-is P (Low i) a b = taken-zero b (N .low i)
+  slack-is P (High i) a b = from-zero a (N .high i)
+
   -- "Yes is given exactly when the named rule's inequality holds.": a rule is met by the latencies at its two ends exactly when the
   -- table's third column holds
   pub met-is-rule : (P : ℕ) (x : ℕ → ℤ) (r : Rule) → Met N P r (x (tail N r)) (x (head N r)) ↔ Holds N P x r

@@ -1,27 +1,18 @@
--- What a table of numbers gives, it gives once: where each row has one place, one number and one place. So the scheduler has one outcome,
--- and the rule question one reply.
-use mathlib.Core.Path.{_≡_, refl, sym, ap₂, _∙_}
+-- What a table of numbers gives, it gives once: where each row has one place, one number and one place. And what is known of each row's
+-- places is known of the place that is given.
+use mathlib.Core.Path.{_≡_, sym, _∙_}
 use mathlib.Core.Logic.{_⊎_, inl, inr}
 use mathlib.Core.List.{List, [], _∷_, _++_}
 use mathlib.Core.Bool.{Bool, true}
-use Prim.Native.Nat.{ℕ, _+_, _*_, _≤_, _<_}
+use Prim.Native.Nat.{ℕ, _≤_, _<_}
 use native.Mathlib.Omega.{arith}
-use lib.ListN.{length, getD}
-use lib.Dec.{leb}
-use Rattle.whole.proofs.Lin.{lin, true-not-false}
-use Rattle.paper.specs.declared.Fault.{Fault}
-use Rattle.paper.specs.declared.Fault.the-variants.{Header, Counts, Length, Ranges, Register, Path}
-use Rattle.paper.specs.declared.Outcome.{Outcome}
-use Rattle.paper.specs.declared.Outcome.the-variants as outcome
-use Rattle.paper.specs.declared.Reply.{Reply}
-use Rattle.paper.specs.declared.Reply.the-variants as reply
+use Rattle.whole.proofs.Lin.{true-not-false}
 use Rattle.paper.specs.Network.{Network}
-use Rattle.paper.specs.Rules.{Rule, Setup, Hold, Low, High, kind, number}
-use Rattle.paper.specs.File.{registers, networkOf}
+use Rattle.paper.specs.File.{counted}
 use Rattle.paper.specs.Table.{Row, Fails, Lowest, When, Silent, Given, Clear}
-use Rattle.paper.specs.Refusals.{faults, refusals, NoPeriod, NoneToCeiling}
-use Rattle.paper.specs.Question.{Question, Asked, InRange, questionRefusals, replyNumber, replyPlace, Says, Answers}
-use Rattle.paper.specs.Outcome.{faultNumber, faultPlace, outcomeNumber, outcomePlace, Result}
+use Rattle.paper.specs.Refusals.{faults, refusals, scheduleRows}
+use Rattle.paper.specs.Question.{Question, questionRefusals, questionRows}
+use Rattle.paper.proofs.Legal.{passes, counts-to}
 
 -- ---- any table
 
@@ -49,6 +40,11 @@ abbrev pub NoneBelow : ℕ → List Row → Type 0
 NoneBelow n [] = Unit {0}
 NoneBelow n (r ∷ t) = ((q : ℕ) → r .applies q → n ≤ r .number) × NoneBelow n t
 
+-- every row applies below b alone, once the rows before it are known not to apply
+abbrev pub Below : ℕ → List Row → Type 0
+Below b [] = Unit {0}
+Below b (r ∷ t) = ((p : ℕ) → r .applies p → p < b) × (Silent r → Below b t)
+
 -- number n and place p are given by a row of the table, the first that applies
 abbrev pub ByRow : List Row → ℕ → ℕ → Type 0
 ByRow [] n p = ⊥
@@ -73,6 +69,21 @@ given-lowest k (s ∷ t) r n p (inl b) =
     let e = b .0 in
     ((λ q a. omega arith), above-all (s .number) n t (omega arith) (r .1))
 given-lowest k (s ∷ t) r n p (inr b) = ((λ q a. absurd (b .0 q a)), given-lowest (s .number) t (r .1) n p (b .1))
+
+-- the place that is given lies below what bounds the rows' places
+pub given-below : (b : ℕ) → 0 < b → (t : List Row) → Below b t → (n p : ℕ) → Given t n p → p < b
+given-below b h [] k n p g = let e = g .1 in omega arith
+given-below b h (r ∷ t) k n p (inl g) = k .0 p (g .1)
+given-below b h (r ∷ t) k n p (inr g) = given-below b h t (k .1 (g .0)) n p (g .1)
+
+-- a table continued: each row has one place, or is bounded, as in its part
+pub one-places-append : (t s : List Row) → OnePlaces t → OnePlaces s → OnePlaces (t ++ s)
+one-places-append [] s o k = k
+one-places-append (r ∷ t) s o k = (o .0, one-places-append t s (o .1) k)
+
+pub below-append : (b : ℕ) (t s : List Row) → Below b t → Below b s → Below b (t ++ s)
+below-append b [] s o k = k
+below-append b (r ∷ t) s o k = (o .0, λ h. below-append b t s (o .1 h) k)
 
 -- where 0 is given, no row applies
 pub given-clear : (t : List Row) → Numbered t → (p : ℕ) → Given t 0 p → Clear t
@@ -134,132 +145,59 @@ passed e p x = true-not-false e (x .0)
 pub all-passed : {ok : ℕ → Bool} {n : ℕ} → ((p : ℕ) → p < n → ok p ≡ true) → (p : ℕ) → Lowest ok n p → ⊥
 all-passed all p x = true-not-false (all p (x .0)) (x .1)
 
--- the rows that come after the faults: of the scheduler, and of the rule question
-abbrev pub later-rows : List ℕ → ℕ → List Row
-later-rows f room =
-    record { number = 7; applies = Fails (leb (14 + 16 * registers f) room) }
-    ∷ record { number = 8; applies = When (NoPeriod (networkOf f)) }
-    ∷ record { number = 9; applies = When (NoneToCeiling (networkOf f)) }
-    ∷ []
+pub schedule-one-place : (N : Network) (room : ℕ) → OnePlaces (scheduleRows N room)
+schedule-one-place N room = (fails-one _, (when-one _, (when-one _, tt)))
 
-abbrev pub question-rows : List ℕ → Question → List Row
-question-rows f q = record { number = 10; applies = When (InRange (networkOf f) q → ⊥) } ∷ []
+pub question-one-place : (N : Network) (q : Question) → OnePlaces (questionRows N q)
+question-one-place N q = (when-one _, tt)
+
+-- a test that fails, and a fact that holds, is told at place 0
+at-zero : {b : ℕ} → 0 < b → (p : ℕ) → p ≡ 0 → p < b
+at-zero h p e = omega arith
+
+pub schedule-below : (N : Network) (room : ℕ) → Below 2048 (scheduleRows N room)
+schedule-below N room =
+    ((λ p a. at-zero (omega arith) p (a .1)), λ _. ((λ p a. at-zero (omega arith) p (a .1)), λ _. ((λ p a. at-zero (omega arith) p (a .1)), λ _. tt)))
+
+pub question-below : (N : Network) (q : Question) → Below 2048 (questionRows N q)
+question-below N q = ((λ p a. at-zero (omega arith) p (a .1)), λ _. tt)
 
 module _ (f : List ℕ) where
   -- each row has one place: 0, or the lowest record of which its test fails
-  faults-then : (s : List Row) → OnePlaces s → OnePlaces (faults f ++ s)
-  faults-then s o = (fails-one _, (fails-one _, (fails-one _, (fails-one _, (lowest-one _ _, (lowest-one _ _, o))))))
+  pub faults-one-place : OnePlaces (faults f)
+  faults-one-place = (fails-one _, (fails-one _, (fails-one _, (fails-one _, (lowest-one _ _, (lowest-one _ _, tt))))))
 
-  pub refusals-one-place : (room : ℕ) → OnePlaces (refusals f room)
-  refusals-one-place room = faults-then (later-rows f room) (fails-one _, (when-one _, (when-one _, tt)))
+  -- it is the number of a record at most, and the counts of records have been found in range by then
+  pub faults-below : Below 2048 (faults f)
+  faults-below = (
+    zero,
+    λ _. (
+      zero,
+      λ c. (
+        zero,
+        λ _. (
+          zero,
+          λ _. (
+            (λ p a. let most = counts-to f (passes (counted f) c) .0 in omega (arith, a .0)),
+            λ _. ((λ p a. let most = counts-to f (passes (counted f) c) .1 in omega (arith, a .0)), λ _. tt),
+          ),
+        ),
+      ),
+    ),
+  )
+    where
+      zero : {ok : Bool} → (p : ℕ) → Fails ok p → p < 2048
+      zero p a = at-zero (omega arith) p (a .1)
 
-  pub question-one-place : (q : Question) → OnePlaces (questionRefusals f q)
-  question-one-place q = faults-then (question-rows f q) (when-one _, tt)
-
-  -- the tables stand in the order of their numbers
+  -- the table stands in the order of its numbers
   pub refusals-rising : (room : ℕ) → Rising 0 (refusals f room)
   refusals-rising room = omega arith
 
   pub faults-numbered : Numbered (faults f)
   faults-numbered = omega arith
 
--- ---- the cases from their numbers and places: "a definition gives this paper's number and values for each of its cases"
+  pub refusals-one-place : (room : ℕ) → OnePlaces (refusals f room)
+  refusals-one-place room = one-places-append (faults f) (scheduleRows _ room) faults-one-place (schedule-one-place _ room)
 
--- A case is found again from its number and place: number 0 is `none`, 1 to 6 are the file's faults, then comes the rest.
-module _ {E : Type 0} (none : E) (file : Fault → E) (rest : List E) (last : E) where
-  abbrev caseOf : ℕ → ℕ → E
-  caseOf n p = getD (none ∷ file Header ∷ file Counts ∷ file Length ∷ file Ranges ∷ file (Register p) ∷ file (Path p) ∷ rest) n last
-
-  file-back : (x : Fault) → caseOf (faultNumber x) (faultPlace x) ≡ file x
-  file-back Header = refl
-  file-back Counts = refl
-  file-back Length = refl
-  file-back Ranges = refl
-  file-back (Register i) = refl
-  file-back (Path p) = refl
-
--- numbers 1 to 6 are the file's
-pub fault-numbers : (x : Fault) → (0 < faultNumber x) × (faultNumber x < 7)
-fault-numbers Header = omega arith
-fault-numbers Counts = omega arith
-fault-numbers Length = omega arith
-fault-numbers Ranges = omega arith
-fault-numbers (Register i) = omega arith
-fault-numbers (Path p) = omega arith
-
-pub outcome-known : (a b : Outcome) → outcomeNumber a ≡ outcomeNumber b → outcomePlace a ≡ outcomePlace b → a ≡ b
-outcome-known a b n p = sym (back a) ∙ ap₂ outcomeOf n p ∙ back b
-  where
-    outcomeOf : ℕ → ℕ → Outcome
-    outcomeOf = caseOf outcome.Answered outcome.File (outcome.Room ∷ outcome.NoPeriod ∷ []) outcome.NoneToCeiling
-
-    back : (o : Outcome) → outcomeOf (outcomeNumber o) (outcomePlace o) ≡ o
-    back outcome.Answered = refl
-    back (outcome.File x) = file-back outcome.Answered outcome.File (outcome.Room ∷ outcome.NoPeriod ∷ []) outcome.NoneToCeiling x
-    back outcome.Room = refl
-    back outcome.NoPeriod = refl
-    back outcome.NoneToCeiling = refl
-
--- "Yes and no both come with number 0 and place 0": any other reply is known from its number and place
-pub reply-known : (a b : Reply) → replyNumber a ≡ replyNumber b → replyPlace a ≡ replyPlace b → 0 < replyNumber a → a ≡ b
-reply-known a b n p h = sym (back a h) ∙ ap₂ replyOf n p ∙ back b (omega arith)
-  where
-    replyOf : ℕ → ℕ → Reply
-    replyOf = caseOf reply.Question reply.File [] reply.Question
-
-    back : (o : Reply) → 0 < replyNumber o → replyOf (replyNumber o) (replyPlace o) ≡ o
-    back reply.Yes h = absurd (omega arith)
-    back reply.No h = absurd (omega arith)
-    back (reply.File x) h = file-back reply.Question reply.File [] reply.Question x
-    back reply.Question h = refl
-
--- ---- one outcome, one reply
-
--- one outcome, whatever is left in the output
-pub outcome-one : (f before after after′ : List ℕ) (o o′ : Outcome) → Result f before o after → Result f before o′ after′ → o ≡ o′
-outcome-one f before after after′ o o′ a b =
-    let e = given-one (refusals f (length before)) (refusals-one-place f (length before)) _ _ _ _ (a .given) (b .given) in
-    outcome-known o o′ (e .0) (e .1)
-
--- a rule is named by its kind and its number
-pub rule-named : (r s : Rule) → kind r ≡ kind s → number r ≡ number s → r ≡ s
-rule-named r s k n = sym (back r) ∙ ap₂ ruleOf k n ∙ back s
-  where
-    ruleOf : ℕ → ℕ → Rule
-    ruleOf k n = getD (Setup n ∷ Hold n ∷ Low n ∷ []) k (High n)
-
-    back : (r : Rule) → ruleOf (kind r) (number r) ≡ r
-    back (Setup p) = refl
-    back (Hold p) = refl
-    back (Low i) = refl
-    back (High i) = refl
-
-module _ (N : Network) (q : Question) where
-  pub asked-one : (r s : Rule) → Asked N q r → Asked N q s → r ≡ s
-  asked-one r s a b =
-      let k = a .of-kind in
-      let l = b .of-kind in
-      let m = a .of-number in
-      let n = b .of-number in
-      rule-named r s (omega lin) (omega lin)
-
-  clash : Says N q reply.Yes → Says N q reply.No → ⊥
-  clash (r, a, m) (s, b, k) = k (rw (asked-one s r b a) m)
-
-  said-one : (a b : Reply) → replyNumber a ≡ replyNumber b → replyPlace a ≡ replyPlace b → Says N q a → Says N q b → a ≡ b
-  said-one reply.Yes reply.Yes n p s t = refl
-  said-one reply.Yes reply.No n p s t = absurd (clash s t)
-  said-one reply.Yes (reply.File y) n p s t = absurd (omega (arith, fault-numbers y .0))
-  said-one reply.Yes reply.Question n p s t = absurd (omega arith)
-  said-one reply.No reply.Yes n p s t = absurd (clash t s)
-  said-one reply.No reply.No n p s t = refl
-  said-one reply.No (reply.File y) n p s t = absurd (omega (arith, fault-numbers y .0))
-  said-one reply.No reply.Question n p s t = absurd (omega arith)
-  said-one (reply.File x) b n p s t = reply-known (reply.File x) b n p (fault-numbers x .0)
-  said-one reply.Question b n p s t = reply-known reply.Question b n p (omega arith)
-
--- "Yes is given exactly when the named rule's inequality holds.": no two replies answer one question
-pub reply-one : (f : List ℕ) (q : Question) (a b : Reply) → Answers f q a → Answers f q b → a ≡ b
-reply-one f q a b h k =
-    let e = given-one (questionRefusals f q) (question-one-place f q) _ _ _ _ (h .given) (k .given) in
-    said-one (networkOf f) q a b (e .0) (e .1) (h .says) (k .says)
+  pub question-refusals-one-place : (q : Question) → OnePlaces (questionRefusals f q)
+  question-refusals-one-place q = one-places-append (faults f) (questionRows _ q) faults-one-place (question-one-place _ q)

@@ -19,12 +19,12 @@ use Rattle.paper.specs.Chains.{All, Chain, Once, Loop, Listed}
 use Rattle.paper.specs.Schedule.{Schedule, Contradicts, setups, Answer, Refutes, Shown}
 use Rattle.paper.specs.File.{marked, within, windowed, headed, counted, sized, ranged, registers, paths, registerOk, pathOk, networkOf}
 use Rattle.paper.specs.Table.{Fails, Lowest, Given}
-use Rattle.paper.specs.Refusals.{faults, refusals, Accepted}
+use Rattle.paper.specs.Refusals.{faults, refusals, scheduleRows, Accepted}
 use Rattle.paper.specs.Cases.{Expected, answered, refused-8, refused-9, Case, Comes, numberOf, Worked, fileOf, cases}
 use Rattle.paper.proofs.Legal.{accepted-legal}
 use Rattle.paper.proofs.RuleLaws.{met-is-rule}
 use Rattle.paper.proofs.LoopLaws.{contradicts-always, chain-binds-schedule, no-schedule}
-use Rattle.paper.proofs.TableLaws.{later-rows, given-after, passed, all-passed}
+use Rattle.paper.proofs.TableLaws.{given-after, passed, all-passed}
 use Rattle.paper.proofs.Tests.{Test, via, pair, nothing, never, isTrue, less, atMost, same, differ, atMostℤ, lessℤ, every, below}
 
 -- ---- an accepted file
@@ -196,15 +196,15 @@ module _ (N : Network) (w : Witness) where
       (pair (refutesTest N (N .ceiling) loop) (pair (atMost 1 (w .period)) (scheduleTest N (w .period) (rowOf (w .latencies)))))
 
 -- "given exactly when": what comes of an accepted file fixes the number that is returned
-module _ (f : List ℕ) (a : Accepted f) (room : ℕ) (enough : 14 + 16 * registers f ≤ room) where
-  roomy : (p : ℕ) → Fails (leb (14 + 16 * registers f) room) p → ⊥
+module _ (f : List ℕ) (a : Accepted f) (room : ℕ) (enough : 14 + 16 * networkOf f .registers ≤ room) where
+  roomy : (p : ℕ) → Fails (leb (14 + 16 * networkOf f .registers) room) p → ⊥
   roomy = passed (le-leb _ _ enough)
 
   answer-given : (P : ℕ) (x : ℕ → ℤ) → Answer (networkOf f) P x → Given (refusals f room) 0 0
   answer-given P x h =
       let from = accepted-legal f a .floor-from in
       let on = h .from-floor in
-      given-after (faults f) (later-rows f room) 0 0 a
+      given-after (faults f) (scheduleRows (networkOf f) room) 0 0 a
       (inr (
         roomy,
         inr (
@@ -215,9 +215,9 @@ module _ (f : List ℕ) (a : Accepted f) (room : ℕ) (enough : 14 + 16 * regist
 
   pub comes-given : (e : Expected) → Comes (networkOf f) e → Given (refusals f room) (numberOf e) 0
   comes-given (answered P l loop) h = answer-given P (rowOf l) (h .1)
-  comes-given (refused-8 loop) h = given-after (faults f) (later-rows f room) 8 0 a (inr (roomy, inl (refl, (h .0, refl))))
+  comes-given (refused-8 loop) h = given-after (faults f) (scheduleRows (networkOf f) room) 8 0 a (inr (roomy, inl (refl, (h .0, refl))))
   comes-given (refused-9 loop) h =
-      given-after (faults f) (later-rows f room) 9 0 a
+      given-after (faults f) (scheduleRows (networkOf f) room) 9 0 a
       (inr (roomy, inr ((λ p n. let s = h .0 .some in n .0 (s .0) (s .1) (s .2)), inl (refl, (h .0, refl)))))
 
 worked : (c : Case) → Accepted (fileOf (c .network)) × Comes (networkOf (fileOf (c .network))) (c .result) → Worked c

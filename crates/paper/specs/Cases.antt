@@ -9,7 +9,7 @@ use Rattle.whole.specs.Four.{four}
 use Rattle.paper.specs.Network.{Network}
 use Rattle.paper.specs.Rules.{Rule, Setup, Hold, High}
 use Rattle.paper.specs.Schedule.{Answer, Shown, Refutes, setups}
-use Rattle.paper.specs.File.{registers, networkOf}
+use Rattle.paper.specs.File.{networkOf}
 use Rattle.paper.specs.Table.{Given}
 use Rattle.paper.specs.Refusals.{Accepted, refusals, NoPeriod, NoneToCeiling}
 
@@ -69,7 +69,7 @@ numberOf (refused-9 loop) = 9
 -- says.
 pub record Worked (c : Case) : Type 0 where
   pub accepted : Accepted (fileOf (c .network))
-  pub given : (room : ℕ) → 14 + 16 * registers (fileOf (c .network)) ≤ room
+  pub given : (room : ℕ) → 14 + 16 * networkOf (fileOf (c .network)) .registers ≤ room
       → Given (refusals (fileOf (c .network)) room) (numberOf (c .result)) 0
   pub comes : Comes (networkOf (fileOf (c .network))) (c .result)
 

@@ -6,6 +6,7 @@ pub mod Schedule
 pub mod File
 pub mod Table
 pub mod Refusals
+pub mod Numbers
 pub mod Output
 pub mod Outcome
 pub mod Question

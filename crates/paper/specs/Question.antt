@@ -17,7 +17,7 @@ use Rattle.paper.specs.Rules.{Rule, kind, number, Exists, Met}
 use Rattle.paper.specs.File.{natural, within, networkOf}
 use Rattle.paper.specs.Table.{Row, When, Given}
 use Rattle.paper.specs.Refusals.{faults}
-use Rattle.paper.specs.Outcome.{faultNumber, faultPlace}
+use Rattle.paper.specs.Numbers.{replyNumber, replyPlace}
 
 -- a question: the period, the rule's kind and number, the latencies at the arrow's tail and head
 pub record Question : Type 0 where
@@ -43,28 +43,25 @@ module _ (N : Network) (q : Question) where
   abbrev pub MetAsked : Rule → Type 0
   MetAsked r = Met N (natural (q .period)) r (q .tail-latency) (q .head-latency)
 
+-- | 10 | the period or a latency is out of range, or the rule doesn't exist | 0 |
+abbrev pub questionRows : Network → Question → List Row
+questionRows N q = record { number = 10; applies = When (InRange N q → ⊥) } ∷ []
+
+-- the question's table, of a file
 abbrev pub questionRefusals : List ℕ → Question → List Row
-questionRefusals f q = faults f ++ record { number = 10; applies = When (InRange (networkOf f) q → ⊥) } ∷ []
+questionRefusals f q = faults f ++ questionRows (networkOf f) q
 
-abbrev pub replyNumber : Reply → ℕ
-replyNumber reply.Yes = 0
-replyNumber reply.No = 0
-replyNumber (reply.File x) = faultNumber x
-replyNumber reply.Question = 10
-
-abbrev pub replyPlace : Reply → ℕ
-replyPlace reply.Yes = 0
-replyPlace reply.No = 0
-replyPlace (reply.File x) = faultPlace x
-replyPlace reply.Question = 0
-
+-- "Yes is given exactly when the named rule's inequality holds. .. a refusal carries neither."
 abbrev pub Says : Network → Question → Reply → Type 0
 Says N q reply.Yes = (r : Rule) × Asked N q r × MetAsked N q r
 Says N q reply.No = (r : Rule) × Asked N q r × (MetAsked N q r → ⊥)
-Says N q (reply.File x) = Unit {0}
-Says N q reply.Question = Unit {0}
+Says N q (reply.Refused x) = Unit {0}
 
--- The rule question, lent the file f, may return o.
-pub record Answers (f : List ℕ) (q : Question) (o : Reply) : Type 0 where
-  pub given : Given (questionRefusals f q) (replyNumber o) (replyPlace o)
-  pub says : Says (networkOf f) q o
+-- The rule question, given the network N, with these rows for its table of numbers, may return o.
+pub record Answers (N : Network) (rows : List Row) (q : Question) (o : Reply) : Type 0 where
+  pub given : Given rows (replyNumber o) (replyPlace o)
+  pub says : Says N q o
+
+-- a file's: its network, and its refusals
+abbrev pub FileAnswers : List ℕ → Question → Reply → Type 0
+FileAnswers f q o = Answers (networkOf f) (questionRefusals f q) q o

@@ -1,4 +1,4 @@
--- Numbers returned, 1 to 9.
+-- Numbers returned, 1 to 9: the rows of the tables.
 use mathlib.Core.List.{List, [], _∷_, _++_}
 use Prim.Native.Nat.{ℕ, _+_, _*_, _≤_}
 use lib.IntN.{ℤ}
@@ -44,10 +44,13 @@ Accepted f = Clear (faults f)
 -- | 7 | room below 14 + 16n                            | 0 |
 -- | 8 | no schedule at any whole period, however large | 0 |
 -- | 9 | a schedule at some period, none up to the ceiling | 0 |
-abbrev pub refusals : List ℕ → ℕ → List Row
-refusals f room =
-    faults f
-    ++ record { number = 7; applies = Fails (leb (14 + 16 * registers f) room) }
-    ∷ record { number = 8; applies = When (NoPeriod (networkOf f)) }
-    ∷ record { number = 9; applies = When (NoneToCeiling (networkOf f)) }
+abbrev pub scheduleRows : Network → ℕ → List Row
+scheduleRows N room =
+    record { number = 7; applies = Fails (leb (14 + 16 * N .registers) room) }
+    ∷ record { number = 8; applies = When (NoPeriod N) }
+    ∷ record { number = 9; applies = When (NoneToCeiling N) }
     ∷ []
+
+-- the scheduler's table, of a file
+abbrev pub refusals : List ℕ → ℕ → List Row
+refusals f room = faults f ++ scheduleRows (networkOf f) room

@@ -1,4 +1,6 @@
-// The public types that the paper's definitions speak of. The definitions are in specs/.
+// The public types that the paper's definitions speak of, and their numbers (codes). The definitions are in specs/.
+pub mod codes;
+
 ghost use mathlib.Core.Path.{_≡_};
 ghost use lib.IntN.{_+ℤ_, _-ℤ_};
 ghost use mir.Syntax.{w32};
@@ -70,19 +72,24 @@ pub enum Verdict {
     Faulty(Fault),
 }
 
-// What the scheduler returns: number 0, the file's fault, or numbers 7 to 9.
+// A refusal that comes before number 7, whichever call gives it: one list for the whole module, of which each function gives a part.
+pub enum Refusal {
+    File(Fault),
+    Question,
+}
+
+// What the scheduler returns: number 0, a refusal that comes before 7, or numbers 7 to 9.
 pub enum Outcome {
     Answered,
-    File(Fault),
+    Refused(Refusal),
     Room,
     NoPeriod,
     NoneToCeiling,
 }
 
-// What the rule question returns: yes and no, both with number 0, the file's fault, or number 10.
+// What the rule question returns: yes and no, both with number 0, or a refusal.
 pub enum Reply {
     Yes,
     No,
-    File(Fault),
-    Question,
+    Refused(Refusal),
 }

@@ -1,4 +1,1 @@
-pub mod Late
-pub mod Start
-pub mod Solved
-pub mod Memory
+pub mod Search

@@ -1,159 +1,68 @@
-// The search for the smallest period: first the rules that do not know it, then a climb from the floor or from the need of a first loop, each
-// contradicting loop's need as the next period.
-ghost use mathlib.Core.Path.{_≡_};
-ghost use Prim.Native.Nat.{_+_, _*_, _≤_, _<_};
+// The search for the smallest period: first a look at the rules that do not know it, then the climb. All memory is the module's own: no heap,
+// no recursion.
+ghost use Prim.Native.Nat.{_+_, _*_, _≤_};
 ghost use lib.ListN.{length};
 ghost use Rattle.paper.specs.File.{networkOf};
 ghost use Rattle.paper.specs.Refusals.{Accepted};
-ghost use Rattle.arrows.specs.Filled.{Filled};
-ghost use Rattle.period.specs.Memory.{Bounds, Counts, Sizes, SomePeriod};
-ghost use Rattle.period.specs.Start.{Begins};
-ghost use Rattle.period.specs.Solved.{Solved, Freed};
-
-mod need;
-mod start;
-
-use crate::start::begin;
-use answer::answered;
+ghost use Rattle.climb.specs.Solved.{Solved};
+ghost use Rattle.period.specs.Search.{Searchable, Searched, Ascendable, Ascended};
 use answer::loop_alone;
-use arrows::at_period;
+use climb::begin::begin;
+use climb::climb;
+use look::look;
+use network::Header;
 use paper::Outcome;
-use rounds::relax::relax;
-
-// Relaxes the rules that do not know the period. Answers how many entries a loop of them that contradicts itself has: none where some
-// period has a schedule.
-fn free(
-    file: &[u8],
-    n: usize,
-    m: usize,
-    tail: &[u16],
-    head: &[u16],
-    amount: &[i32],
-    base: &[i32],
-    a: &mut [i32],
-    b: &mut [i32],
-    p: &mut [u16],
-    ring: &mut [u16],
-) -> usize
-    requires { ⌜ (Accepted (now file)) × (n ≡ networkOf (now file) .registers) × (m ≡ networkOf (now file) .paths) ⌝ }
-    requires { ⌜ Filled (networkOf (now file)) (now tail) (now head) (now amount) (now base) ⌝ }
-    requires { ⌜ (length (now a) ≡ n) × (length (now b) ≡ n) × (length (now p) ≡ n) × (n ≤ length (now ring)) ⌝ }
-    ensures { λ r. ⌜ Freed (networkOf (now (file .entry))) (now (ring .exit)) r ⌝ }
-{
-    let mut entries = 0;
-    let fixed = 2 * (n - 1) + m;
-    relax(tail, head, amount, n, fixed, a, b, p, ring, &mut entries);
-    entries
-}
-
-// From the period at which the climb begins up. The loop that is kept contradicts itself at the period before the one that is tried.
-fn climb(
-    file: &[u8],
-    n: usize,
-    m: usize,
-    begun: i32,
-    ceiling: i32,
-    tail: &[u16],
-    head: &[u16],
-    amount: &mut [i32],
-    base: &[i32],
-    a: &mut [i32],
-    b: &mut [i32],
-    p: &mut [u16],
-    ring: &mut [u16],
-    out: &mut [u8],
-    shown: usize,
-) -> Outcome
-    requires { ⌜ (Accepted (now file)) × (Bounds (networkOf (now file)) n m ceiling) × (SomePeriod (networkOf (now file))) ⌝ }
-    requires { ⌜ Filled (networkOf (now file)) (now tail) (now head) (now amount) (now base) ⌝ }
-    requires { ⌜ Begins (networkOf (now file)) begun (now ring) shown ⌝ }
-    requires { ⌜ Sizes n (now a) (now b) (now p) (now ring) (now out) ⌝ }
-    ensures { λ r. ⌜ Solved (networkOf (now (file .entry))) (now (out .entry)) r (now (out .exit)) ⌝ }
-{
-    let all = 2 * (n - 1) + 2 * m;
-    let mut period = begun;
-    let mut kept = shown;
-    loop {
-        at_period(file, n, m, period, tail, head, amount, base);
-        let mut entries = 0;
-        let row = relax(tail, head, amount, n, all, a, b, p, ring, &mut entries);
-        if entries == 0 {
-            answered(out, period, row, n, m, ring, kept);
-            return Outcome::Answered;
-        }
-        let above = need::next(tail, head, amount, n, m, period, ring, entries);
-        if ceiling < above {
-            loop_alone(out, n, m, ring, entries);
-            return Outcome::NoneToCeiling;
-        }
-        kept = entries;
-        period = above;
-    }
-}
 
 // Where some period has a schedule: finds where to begin, and climbs from there.
 fn ascend(
-    file: &[u8],
-    n: usize,
-    m: usize,
-    floor: i32,
-    ceiling: i32,
+    h: Header,
+    kind: &[u8],
+    number: &[u16],
     tail: &[u16],
     head: &[u16],
     amount: &mut [i32],
     base: &[i32],
+    row: &[i32],
+    preds: &[u16],
+    passed: usize,
     a: &mut [i32],
     b: &mut [i32],
     p: &mut [u16],
     ring: &mut [u16],
     out: &mut [u8],
 ) -> Outcome
-    requires { ⌜ (Accepted (now file)) × (Counts (networkOf (now file)) n m floor ceiling) × (SomePeriod (networkOf (now file))) ⌝ }
-    requires { ⌜ Filled (networkOf (now file)) (now tail) (now head) (now amount) (now base) ⌝ }
-    requires { ⌜ Sizes n (now a) (now b) (now p) (now ring) (now out) ⌝ }
-    ensures { λ r. ⌜ Solved (networkOf (now (file .entry))) (now (out .entry)) r (now (out .exit)) ⌝ }
+    requires { ⌜ Ascendable h (now kind) (now number) (now tail) (now head) (now amount) (now base) (now row) (now preds) passed (now a) (now b) (now p) (now ring) (now out) ⌝ }
+    ensures { λ r. ⌜ Ascended h (now (kind .entry)) (now (number .entry)) (now (tail .entry)) (now (head .entry)) (now (amount .entry)) (now (base .entry)) (now (out .entry)) (now (out .exit)) r ⌝ }
 {
-    let start = begin(
-        file,
-        n,
-        m,
-        floor,
-        ceiling,
-        tail,
-        head,
-        amount,
-        base,
-        p,
-        ring,
-    );
+    let start = begin(h, kind, tail, head, amount, base, p, ring);
     let begun = start.period;
     let shown = start.kept;
     climb(
-        file,
-        n,
-        m,
-        begun,
-        ceiling,
+        h,
+        kind,
+        number,
         tail,
         head,
         amount,
         base,
+        row,
+        preds,
+        passed,
         a,
         b,
         p,
         ring,
         out,
+        begun,
         shown,
     )
 }
 
 // The parts of the search, over memory that is lent.
 fn search(
-    file: &[u8],
-    n: usize,
-    m: usize,
-    floor: i32,
-    ceiling: i32,
+    h: Header,
+    kind: &[u8],
+    number: &[u16],
     tail: &[u16],
     head: &[u16],
     amount: &mut [i32],
@@ -162,28 +71,33 @@ fn search(
     b: &mut [i32],
     p: &mut [u16],
     ring: &mut [u16],
+    row: &mut [i32],
+    preds: &mut [u16],
     out: &mut [u8],
 ) -> Outcome
-    requires { ⌜ (Accepted (now file)) × (Counts (networkOf (now file)) n m floor ceiling) ⌝ }
-    requires { ⌜ Filled (networkOf (now file)) (now tail) (now head) (now amount) (now base) ⌝ }
-    requires { ⌜ Sizes n (now a) (now b) (now p) (now ring) (now out) ⌝ }
-    ensures { λ r. ⌜ Solved (networkOf (now (file .entry))) (now (out .entry)) r (now (out .exit)) ⌝ }
+    requires { ⌜ Searchable h (now kind) (now number) (now tail) (now head) (now amount) (now base) (now a) (now b) (now p) (now ring) (now row) (now preds) (now out) ⌝ }
+    ensures { λ r. ⌜ Searched h (now (kind .entry)) (now (number .entry)) (now (tail .entry)) (now (head .entry)) (now (amount .entry)) (now (base .entry)) (now (out .entry)) (now (out .exit)) r ⌝ }
 {
-    let entries = free(file, n, m, tail, head, amount, base, a, b, p, ring);
+    let n = h.registers;
+    let fixed = places::fixed(n, h.paths);
+    let seen = look(tail, head, amount, n, fixed, a, b, p, ring, row, preds);
+    let entries = seen.entries;
+    let passed = seen.passed;
     if entries != 0 {
-        loop_alone(out, n, m, ring, entries);
+        loop_alone(out, kind, number, ring, entries);
         return Outcome::NoPeriod;
     }
     ascend(
-        file,
-        n,
-        m,
-        floor,
-        ceiling,
+        h,
+        kind,
+        number,
         tail,
         head,
         amount,
         base,
+        row,
+        preds,
+        passed,
         a,
         b,
         p,
@@ -192,17 +106,15 @@ fn search(
     )
 }
 
-// The smallest period of an accepted network with its least latencies, or that there is none. All memory is the module's own: no heap, no
-// recursion.
+// The smallest period of an accepted network with its least latencies, or that there is none.
 pub fn solve(file: &[u8], out: &mut [u8]) -> Outcome
     requires { ⌜ (Accepted (now file)) × (14 + 16 * networkOf (now file) .registers ≤ length (now out)) ⌝ }
     ensures { λ r. ⌜ Solved (networkOf (now (file .entry))) (now (out .entry)) r (now (out .exit)) ⌝ }
 {
     let h = network::read::header(file);
     let n = h.registers;
-    let m = h.paths;
-    let floor = h.floor;
-    let ceiling = h.ceiling;
+    let mut kind = [0u8; 4608];
+    let mut number = [0u16; 4608];
     let mut tail = [0u16; 4608];
     let mut head = [0u16; 4608];
     let mut amount = [0i32; 4608];
@@ -211,13 +123,22 @@ pub fn solve(file: &[u8], out: &mut [u8]) -> Outcome
     let mut b = [0i32; 256];
     let mut p = [0u16; 256];
     let mut ring = [0u16; 256];
-    arrows::fill(file, n, m, &mut tail, &mut head, &mut amount, &mut base);
-    search(
+    let mut row = [0i32; 256];
+    let mut preds = [0u16; 256];
+    arrows::fill(
         file,
-        n,
-        m,
-        floor,
-        ceiling,
+        h,
+        &mut kind,
+        &mut number,
+        &mut tail,
+        &mut head,
+        &mut amount,
+        &mut base,
+    );
+    search(
+        h,
+        &kind,
+        &number,
         &tail,
         &head,
         &mut amount,
@@ -226,6 +147,8 @@ pub fn solve(file: &[u8], out: &mut [u8]) -> Outcome
         &mut b[..n],
         &mut p[..n],
         &mut ring,
+        &mut row[..n],
+        &mut preds[..n],
         out,
     )
 }

@@ -1,10 +1,10 @@
 -- A list copied element by element from the front.
-use mathlib.Core.Path.{_≡_, refl, _∙_}
+use mathlib.Core.Path.{_≡_, _∙_}
 use mathlib.Core.List.{List}
-use Prim.Native.Nat.{ℕ, zero, suc, _+_, _≤_, _<_}
+use Prim.Native.Nat.{ℕ, _+_, _≤_, _<_}
 use native.Mathlib.Omega.{arith}
 use native.Mathlib.Decide.{ℕ-discrete}
-use lib.ListN.{length, getD, set, length-set, replicate}
+use lib.ListN.{length, getD, set, length-set}
 use lib.Seq.{getD-set-same, getD-set-other, ext-getD}
 
 -- the first i elements of b are those of a
@@ -26,9 +26,3 @@ module _ {A : Type 0} (d : A) (a : List A) where
 
   pub copied-all : (b : List A) (i : ℕ) → length a ≤ i → Copied d a b i → b ≡ a
   copied-all b i h c = ext-getD d b a (c .long) (λ k l. c .same k (let g = c .long in let f = c .so-far in omega arith))
-
--- every place of a list of zeros holds 0, and every place past its end reads as 0
-pub zeros : (n v : ℕ) → _≡_ {A = ℕ} (getD (replicate n 0) v 0) 0
-zeros zero v = refl
-zeros (suc n) zero = refl
-zeros (suc n) (suc v) = zeros n v

@@ -1,10 +1,5 @@
 pub mod Copies
 pub mod Steps
-pub mod Gives
-pub mod Walks
-pub mod Puts
-pub mod Settles
-pub mod Rings
 pub mod Turns
-pub mod Firsts
+pub mod Resuming
 pub mod Relaxes

@@ -1,35 +1,30 @@
--- The ways out of a relaxation, by what its last turn came to.
-use mathlib.Core.Path.{_≡_}
-use mathlib.Core.Bool.{false}
+-- What a turn tells, by its answer, and what the next turn is given.
+use mathlib.Core.Path.{_≡_, _∙_}
+use mathlib.Core.Bool.{Bool, true, false}
 use mathlib.Core.List.{List}
-use Prim.Native.Nat.{ℕ, _≤_, _<_}
-use native.Mathlib.Omega.{arith}
-use lib.ListN.{take}
+use Prim.Native.Nat.{ℕ}
+use lib.ListN.{length}
 use lib.IntN.{ℤ}
 use Rattle.loops.specs.Arrows.{Arrows}
-use Rattle.loops.specs.Model.{rooted, circleArrows}
-use Rattle.loops.specs.Forest.{gap}
-use Rattle.rounds.specs.Relaxation.{Ready, Rests, Shows, Turned, Relaxed}
-use Rattle.rounds.specs.declared.relax.Step.{Step}
-use Rattle.rounds.specs.declared.relax.Step.the-variants.{Rested, Settled, Circled}
+use Rattle.rounds.specs.Relaxation.{Starts, Relaxed, Nears, Turned}
+use Rattle.rounds.proofs.Resuming.{resumes-first}
 
-module _ (Γ : Arrows) where
-  module _ (a row : List ℤ) (p : List ℕ) (r : Step) where
-    pub told-rested : r ≡ Rested → Turned Γ a row p r → Rests Γ row
-    told-rested e t = rw e at t
+module _ (Γ : Arrows) (a row : List ℤ) (p : List ℕ) (entries : ℕ) (before loop : List ℕ) (over : Bool) where
+  -- over; the loop's list was before it what it was at first
+  pub told-over : (first : List ℕ) → before ≡ first → over ≡ true → Turned Γ a row p entries before loop over → Relaxed Γ row p entries first loop
+  told-over first same e t =
+      let r : Relaxed Γ row p entries before loop = rw e at t in
+      record { rested = r .rested; ready = r .ready; kept = λ q. r .kept q ∙ same; circled = r .circled; room = r .room }
 
-    pub told-settled : r ≡ Settled → Turned Γ a row p r → Ready Γ row p × (gap Γ 16777216 row < gap Γ 16777216 a)
-    told-settled e t = rw e at t
+  pub told-on : over ≡ false → Turned Γ a row p entries before loop over → Nears Γ a row p before loop
+  told-on e t = rw e at t
 
-    pub told-circled : (s : ℕ) → r ≡ Circled s → Turned Γ a row p r → (s < Γ .registers) × (rooted Γ p (Γ .registers) s ≡ false) × Shows Γ (circleArrows Γ p s)
-    told-circled s e t = rw e at t
+-- the next turn goes the other way, over all arrows
+pub starts-next : (Γ : Arrows) (a b : List ℤ) (p : List ℕ) (from : ℕ) (row : List ℤ) (q before loop : List ℕ) → Starts Γ a b p from
+    → Nears Γ a row q before loop → Starts Γ row a q 0
+starts-next Γ a b p from row q before loop s n =
+    record { shape = s .shape; bounded = s .bounded; resumes = resumes-first Γ row q (n .ready); spare = s .resumes .ready .tight .row-length }
 
-  pub relaxed-rested : (row : List ℤ) (before out : List ℕ) → out ≡ before → Rests Γ row → Relaxed Γ row 0 before out
-  relaxed-rested row before out e r =
-      record { rested = λ q. r; kept = λ q. e; circled = λ h. absurd (omega arith); room = omega arith }
-
-  pub relaxed-circled : (row : List ℤ) (entries : ℕ) (before out p : List ℕ) (s : ℕ) → Shows Γ (circleArrows Γ p s)
-      → (0 < entries) × (entries ≤ Γ .registers) × (take entries out ≡ circleArrows Γ p s) → Relaxed Γ row entries before out
-  relaxed-circled row entries before out p s shows h =
-      let some = h .0 in
-      record { rested = λ e. absurd (omega arith); kept = λ e. absurd (omega arith); circled = λ g. rw (h .2) shows; room = h .1 }
+-- copies of a row and its preds are as good
+pub starts-copied : (Γ : Arrows) (a b a′ : List ℤ) (p p′ : List ℕ) (from : ℕ) → a′ ≡ a → p′ ≡ p → Starts Γ a b p from → Starts Γ a′ b p′ from
+starts-copied Γ a b a′ p p′ from e f s = rw (e, f) s

@@ -1,17 +1,17 @@
 -- What a turn of the relaxation rests on: a ready row lies in its range, what a round's preds give lies in a row's range, and each way that
 -- a turn ends is what its contract says.
-use mathlib.Core.Path.{_≡_, sym, ap, _∙_}
+use mathlib.Core.Path.{_≡_, refl, sym, ap, _∙_}
 use mathlib.Core.Bool.{Bool, true, false}
 use mathlib.Core.List.{List}
 use Prim.Native.Nat.{ℕ, zero, suc, _-_, _*_, _≤_, _<_}
 use native.Mathlib.Omega.{arith}
 use native.Mathlib.Nat.{mul-le-mul-right}
-use lib.ListN.{length}
+use lib.ListN.{length, take}
 use lib.IntN.{ℤ, pos, negsuc}
 use lib.Signed.{_≤ℤ_}
 use Rattle.whole.proofs.Lin.{lin}
 use Rattle.loops.specs.Arrows.{Arrows, amount, tail}
-use Rattle.loops.specs.Model.{at, pred, round, rowAfter, predsAfter, rooted, allRooted, settled, worth, circleArrows, firstRow, firstPreds}
+use Rattle.loops.specs.Model.{at, pred, round, rowAfter, predsAfter, rooted, allRooted, settled, worth, circleArrows}
 use Rattle.loops.specs.Forest.{Deep, gap}
 use Rattle.loops.proofs.Grounded.{deep-short}
 use Rattle.loops.proofs.Worth.{worth-next, worth-root, worth-most, tight-settled, settled-most}
@@ -20,10 +20,11 @@ use Rattle.loops.proofs.Settle.{settled-tight, rows-from}
 use Rattle.loops.proofs.Ends.{gap-falls}
 use Rattle.loops.proofs.Relax.{circled-ends}
 use Rattle.loops.proofs.Rooted.{stray-above, stray-below}
-use Rattle.loops.proofs.First.{first-tight, first-row-host, first-row-low}
-use Rattle.rounds.specs.Shape.{Shape, Row, turn}
-use Rattle.rounds.specs.Settling.{Fair, Settles}
-use Rattle.rounds.specs.Relaxation.{Bounded, Ready, Rests, Shows}
+use Rattle.loops.proofs.Begun.{root-kept}
+use Rattle.loops.specs.Shape.{Shape, Times}
+use Rattle.settling.specs.Settling.{Fair, Settles}
+use Rattle.rounds.specs.Turning.{turn}
+use Rattle.rounds.specs.Relaxation.{Bounded, Ready, Shows, Relaxed, Nears}
 
 module _ (Γ : Arrows) (shape : Shape Γ) where
   modest-to : (e : ℕ) → e < Γ .count → amount Γ e ≤ℤ pos 4194304
@@ -34,7 +35,7 @@ module _ (Γ : Arrows) (shape : Shape Γ) where
   range d h = let f = shape .few in let l : d ≤ 256 = omega arith in omega (arith, mul-le-mul-right 4194304 l)
 
   -- A tight row is what its preds give, so at most its depth times the greatest amount.
-  pub ready-row : (a : List ℤ) (p : List ℕ) → Ready Γ a p → Row (Γ .registers) a
+  pub ready-row : (a : List ℤ) (p : List ℕ) → Ready Γ a p → Times (Γ .registers) a
   ready-row a p r =
       record {
         long = r .tight .row-length;
@@ -83,25 +84,34 @@ module _ (Γ : Arrows) (shape : Shape Γ) where
     pub row-long : length (rowAfter Γ a p) ≡ Γ .registers
     row-long = tight-books Γ a p (shape .sound) (r .tight) .row-length
 
-    -- nothing was raised
-    pub turned-rested : round Γ a p .raised ≡ false → Rests Γ (rowAfter Γ a p)
-    turned-rested q =
-        let same = round-quiet Γ a p (shape .sound) (r .tight) q .row-same in
-        record { long = row-long; least = rw same (rested-least Γ a p (shape .sound) (r .tight) q) }
+    -- nothing was raised: the row and the preds are those that entered, and the row is the least schedule
+    turned-rested : (out : List ℕ) → round Γ a p .raised ≡ false → Relaxed Γ (rowAfter Γ a p) (predsAfter Γ a p) 0 out out
+    turned-rested out q =
+        let same = round-quiet Γ a p (shape .sound) (r .tight) q in
+        record {
+          rested = λ e. record { long = row-long; least = rw (same .row-same) (rested-least Γ a p (shape .sound) (r .tight) q) };
+          ready = λ e. rw (same .row-same, same .preds-same) r;
+          kept = λ e. refl;
+          circled = λ h. absurd (omega arith);
+          room = omega arith;
+        }
 
     -- the preds are a forest, and the row is settled
-    pub turned-settled : Bounded Γ → round Γ a p .raised ≡ true → allRooted Γ (predsAfter Γ a p) ≡ true
-        → Ready Γ (settled Γ (predsAfter Γ a p)) (predsAfter Γ a p) × (gap Γ 16777216 (settled Γ (predsAfter Γ a p)) < gap Γ 16777216 a)
-    turned-settled w q all = (
-      record {
-        tight = settled-tight Γ a p (shape .sound) (r .tight) all;
-        from = λ v b. let f = rows-from Γ a p (shape .sound) (r .tight) all v b in let g = r .from v b in omega lin;
-      },
-      gap-falls Γ 16777216 (shape .sound) w a p (r .tight) q all,
-    )
+    turned-settled : (out : List ℕ) → Bounded Γ → round Γ a p .raised ≡ true → allRooted Γ (predsAfter Γ a p) ≡ true
+        → Nears Γ a (settled Γ (predsAfter Γ a p)) (predsAfter Γ a p) out out
+    turned-settled out w q all =
+        record {
+          ready = record {
+            tight = settled-tight Γ a p (shape .sound) (r .tight) all;
+            from = λ v b. let f = rows-from Γ a p (shape .sound) (r .tight) all v b in let g = r .from v b in omega lin;
+            root = root-kept Γ a p (shape .sound) (r .tight) all ∙ r .root;
+          };
+          nearer = gap-falls Γ 16777216 (shape .sound) w a p (r .tight) q all;
+          kept = refl;
+        }
 
-    -- a register is not grounded
-    pub turned-circled : (u : ℕ) → u < Γ .registers → rooted Γ (predsAfter Γ a p) (Γ .registers) u ≡ false → Shows Γ (circleArrows Γ (predsAfter Γ a p) u)
+    -- a register is not grounded: the circle on which the walk back from it ends contradicts itself
+    turned-circled : (u : ℕ) → u < Γ .registers → rooted Γ (predsAfter Γ a p) (Γ .registers) u ≡ false → Shows Γ (circleArrows Γ (predsAfter Γ a p) u)
     turned-circled u b q = let e = circled-ends Γ a p (shape .sound) (r .tight) u b q in record { contradicts = e .0; listed = e .1 }
 
     -- the same of the row, the preds and the flag that the code holds after its round
@@ -124,33 +134,27 @@ module _ (Γ : Arrows) (shape : Shape Γ) where
       pub after-row-long : length b ≡ Γ .registers
       after-row-long = rw row-is row-long
 
-      pub after-rested : raised ≡ false → Rests Γ b
-      after-rested h = rw row-is (turned-rested (sym flag-is ∙ h))
+      pub after-rested : (out : List ℕ) → raised ≡ false → Relaxed Γ b q 0 out out
+      after-rested out h = rw (row-is, preds-is) (turned-rested out (sym flag-is ∙ h))
 
-      pub after-settled : (row : List ℤ) (t : ℕ) → Bounded Γ → raised ≡ true → Settles Γ q row t → Γ .registers ≤ t
-          → Ready Γ row q × (gap Γ 16777216 row < gap Γ 16777216 a)
-      after-settled row t w h s e =
-          let (whole, all) = stray-above Γ q (t) (s .answer) e in
-          rw (s .row-is whole, preds-is) (turned-settled w (sym flag-is ∙ h) (ap (allRooted Γ) (sym preds-is) ∙ all))
+      -- what settling answered: n, or the first register that is not grounded
+      module _ (row : List ℤ) (t : ℕ) (s : Settles Γ q row t) where
+        pub after-settled : (out : List ℕ) → Bounded Γ → raised ≡ true → Γ .registers ≤ t → Nears Γ a row q out out
+        after-settled out w h e =
+            let (whole, all) = stray-above Γ q t (s .answer) e in
+            rw (s .row-is whole, preds-is) (turned-settled out w (sym flag-is ∙ h) (ap (allRooted Γ) (sym preds-is) ∙ all))
 
-      pub after-circled : (row : List ℤ) (t : ℕ) → Settles Γ q row t → t < Γ .registers
-          → (t < Γ .registers) × (rooted Γ q (Γ .registers) t ≡ false) × Shows Γ (circleArrows Γ q t)
-      after-circled row t s b =
-          let strays = stray-below Γ q t (s .answer) b in
-          (b, strays, rw preds-is (turned-circled t b (ap (λ x. rooted Γ x (Γ .registers) t) (sym preds-is) ∙ strays)))
+        pub after-unrooted : t < Γ .registers → rooted Γ q (Γ .registers) t ≡ false
+        after-unrooted = stray-below Γ q t (s .answer)
 
-  -- the first row
-  pub first-ready : Bounded Γ → Ready Γ (firstRow Γ) (firstPreds Γ 65535)
-  first-ready w =
-      record {
-        tight = first-tight Γ 16777216 65535 (shape .sound) w (let n = shape .named in omega arith);
-        from = from;
-      }
-    where
-      from : (v : ℕ) → v < Γ .registers → negsuc 16777215 ≤ℤ at (firstRow Γ) v
-      from zero b = let h = first-row-host Γ (shape .sound) in omega lin
-      from (suc v) b =
-          let e = first-row-low Γ (suc v) (omega arith) b in
-          let x = w .window (suc v) (omega arith) b .low-exists in
-          let m = shape .modest (suc v - 1) x .from in
-          omega lin
+        pub after-circled : (entries : ℕ) (before out : List ℕ) → t < Γ .registers
+            → (0 < entries) × (entries ≤ Γ .registers) × (take entries out ≡ circleArrows Γ q t) → Relaxed Γ row q entries before out
+        after-circled entries before out below h =
+            let some = h .0 in
+            record {
+              rested = λ e. absurd (omega arith);
+              ready = λ e. absurd (omega arith);
+              kept = λ e. absurd (omega arith);
+              circled = λ g. rw (h .2, preds-is) (turned-circled t below (ap (λ x. rooted Γ x (Γ .registers) t) (sym preds-is) ∙ after-unrooted below));
+              room = h .1;
+            }

@@ -1,3 +1,2 @@
-pub mod Shape
-pub mod Settling
+pub mod Turning
 pub mod Relaxation

@@ -1,5 +1,3 @@
-// Relaxation over two rows, and the loop found among the preds.
+// Relaxation over two rows.
 pub mod relax;
 pub mod round;
-pub mod search;
-pub mod settle;

@@ -1,14 +1,15 @@
 // One round: it reads one row and writes the other; where a head is raised, the arrow is noted as its pred.
 ghost use mathlib.Core.Path.{_≡_};
-ghost use Prim.Native.Nat.{_<_};
+ghost use Prim.Native.Nat.{_≤_, _<_};
 ghost use lib.ListN.{length};
 ghost use lib.IntN.{_+ℤ_};
 ghost use mir.Syntax.{w32};
 ghost use mir.Val.{SFits};
-ghost use mathlib.Core.Bool.{false};
 ghost use Rattle.loops.specs.Arrows.{arrows};
-ghost use Rattle.loops.specs.Model.{at, step, pass, round};
-ghost use Rattle.rounds.specs.Shape.{Shape, Row, turn};
+ghost use Rattle.loops.specs.Begun.{MetBelow};
+ghost use Rattle.loops.specs.Model.{at, step, round};
+ghost use Rattle.loops.specs.Shape.{Shape, Times};
+ghost use Rattle.rounds.specs.Turning.{turn};
 use paper::Delay;
 use paper::Latency;
 
@@ -35,8 +36,9 @@ fn lift(
     raised: bool,
 ) -> bool
     requires { ⌜ Shape (arrows n m (now tail) (now head) (now amount)) ⌝ }
-    requires { ⌜ (e < m) × (Row n (now a)) × (length (now b) ≡ n) × (length (now p) ≡ n) ⌝ }
-    ensures { λ r. ⌜ turn (now (b .exit)) (now (p .exit)) r ≡ step (arrows n m (now (tail .entry)) (now (head .entry)) (now (amount .entry))) (now (a .entry)) e (turn (now (b .entry)) (now (p .entry)) raised) ⌝ }
+    requires { ⌜ (e < m) × (Times n (now a)) × (length (now b) ≡ n) × (length (now p) ≡ n) ⌝ }
+    ensures { λ r. ⌜ turn (now (b .exit)) (now (p .exit)) r
+        ≡ step (arrows n m (now (tail .entry)) (now (head .entry)) (now (amount .entry))) (now (a .entry)) e (turn (now (b .entry)) (now (p .entry)) raised) ⌝ }
 {
     let t = tail[e] as usize;
     let h = head[e] as usize;
@@ -49,23 +51,25 @@ fn lift(
     raised
 }
 
-// All arrows, in their order.
+// The arrows from `from` on, in their order. Those before it are met by the row that entered, so a round over all arrows comes to the same.
 fn sweep(
     tail: &[u16],
     head: &[u16],
     amount: &[i32],
     n: usize,
     m: usize,
+    from: usize,
     a: &[i32],
     b: &mut [i32],
     p: &mut [u16],
 ) -> bool
     requires { ⌜ Shape (arrows n m (now tail) (now head) (now amount)) ⌝ }
-    requires { ⌜ (Row n (now a)) × (length (now b) ≡ n) × (length (now p) ≡ n) ⌝ }
-    ensures { λ r. ⌜ turn (now (b .exit)) (now (p .exit)) r ≡ pass (arrows n m (now (tail .entry)) (now (head .entry)) (now (amount .entry))) (now (a .entry)) m (turn (now (b .entry)) (now (p .entry)) false) ⌝ }
+    requires { ⌜ (Times n (now a)) × (now b ≡ now a) × (length (now p) ≡ n) ⌝ }
+    requires { ⌜ (from ≤ m) × (MetBelow (arrows n m (now tail) (now head) (now amount)) (at (now a)) from) ⌝ }
+    ensures { λ r. ⌜ turn (now (b .exit)) (now (p .exit)) r ≡ round (arrows n m (now (tail .entry)) (now (head .entry)) (now (amount .entry))) (now (a .entry)) (now (p .entry)) ⌝ }
 {
     let mut raised = false;
-    let mut e = 0;
+    let mut e = from;
     while e < m {
         raised = lift(tail, head, amount, n, m, e, a, b, p, raised);
         e += 1;
@@ -73,7 +77,18 @@ fn sweep(
     raised
 }
 
-fn copy(a: &[i32], b: &mut [i32])
+pub fn copy(a: &[i32], b: &mut [i32])
+    requires { ⌜ length (now b) ≡ length (now a) ⌝ }
+    ensures { λ _. ⌜ now (b .exit) ≡ now (a .entry) ⌝ }
+{
+    let mut i = 0;
+    while i < a.len() {
+        b[i] = a[i];
+        i += 1;
+    }
+}
+
+pub fn copy_preds(a: &[u16], b: &mut [u16])
     requires { ⌜ length (now b) ≡ length (now a) ⌝ }
     ensures { λ _. ⌜ now (b .exit) ≡ now (a .entry) ⌝ }
 {
@@ -91,14 +106,16 @@ pub fn turn_round(
     amount: &[i32],
     n: usize,
     m: usize,
+    from: usize,
     a: &[i32],
     b: &mut [i32],
     p: &mut [u16],
 ) -> bool
     requires { ⌜ Shape (arrows n m (now tail) (now head) (now amount)) ⌝ }
-    requires { ⌜ (Row n (now a)) × (length (now b) ≡ n) × (length (now p) ≡ n) ⌝ }
+    requires { ⌜ (Times n (now a)) × (length (now b) ≡ n) × (length (now p) ≡ n) ⌝ }
+    requires { ⌜ (from ≤ m) × (MetBelow (arrows n m (now tail) (now head) (now amount)) (at (now a)) from) ⌝ }
     ensures { λ r. ⌜ turn (now (b .exit)) (now (p .exit)) r ≡ round (arrows n m (now (tail .entry)) (now (head .entry)) (now (amount .entry))) (now (a .entry)) (now (p .entry)) ⌝ }
 {
     copy(a, b);
-    sweep(tail, head, amount, n, m, a, b, p)
+    sweep(tail, head, amount, n, m, from, a, b, p)
 }

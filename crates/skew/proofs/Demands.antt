@@ -1,9 +1,9 @@
 -- What the returned values promise an accepted file: the answer is the paper's, a file goes unanswered exactly when there is none, the
 -- period is the greatest need, and the loop that is shown proves it. Each theorem speaks of a result, that is of what the scheduler returns
--- and leaves. Rests on `Numbers` and on the theorems on schedules and loops, of which the two named last are handed on.
-use mathlib.Core.Path.{_≡_}
-use mathlib.Core.Logic.{_↔_, _⊎_, inl, inr}
-use mathlib.Core.List.{List, [], _∷_}
+-- and leaves. Rests on `Calls` and on the theorems on schedules and loops, of which the two named last are handed on.
+use mathlib.Core.Path.{_≡_, refl}
+use mathlib.Core.Logic.{_↔_, _⊎_}
+use mathlib.Core.List.{List, [], _∷_, _++_}
 use Prim.Native.Nat.{ℕ, _+_, _-_, _*_, _≤_, _<_}
 use native.Mathlib.Omega.{arith}
 use native.Mathlib.Decide.{decLt}
@@ -16,17 +16,20 @@ use Rattle.paper.specs.declared.Outcome.the-variants as outcome
 use Rattle.paper.specs.Network.{Network}
 use Rattle.paper.specs.Rules.{Rule, amount}
 use Rattle.paper.specs.Schedule.{Answer, Refutes, Shown, setups}
-use Rattle.paper.specs.File.{registers, networkOf}
-use Rattle.paper.specs.Refusals.{Accepted, Scheduled, NoPeriod, NoneToCeiling}
-use Rattle.paper.specs.Outcome.{Result}
+use Rattle.paper.specs.File.{networkOf}
+use Rattle.paper.specs.Table.{Row}
+use Rattle.paper.specs.Refusals.{Accepted, Scheduled, NoPeriod, NoneToCeiling, faults, scheduleRows}
+use Rattle.paper.specs.Outcome.{Result, FileResult}
 use Rattle.paper.proofs.Legal.{accepted-legal}
+use Rattle.paper.proofs.NumberLaws.{Refuses, faults-refuse}
 use Rattle.paper.proofs.RuleLaws.{amount-falls}
 use Rattle.paper.proofs.LoopLaws.{contradicts-below-need, contradicts-always, no-schedule}
 use Rattle.loops.specs.Needs.{GreatestNeed}
 use Rattle.loops.proofs.NeedLaws.{need-is}
-use Rattle.loops.proofs.Feasible.{schedule-bars-loop}
+use Rattle.loops.proofs.Rules.{schedule-bars-loop}
 use Rattle.skew.specs.Shows.{ProvesLeast, ProvesNone, ProvesNoneToCeiling, LoopProves}
-use Rattle.skew.proofs.Numbers.{Parted, roomy-parted, accepted-beyond, rest-given, given-9}
+use Rattle.skew.proofs.Numbers.{accepted-beyond}
+use Rattle.skew.proofs.Calls as calls
 -- For every accepted network and every whole period from 1 up, a schedule exists exactly when no loop of rules, passing each register at
 -- most once, contradicts itself.
 pub use Rattle.loops.proofs.Theorems.{schedule-iff-no-loop}
@@ -36,92 +39,39 @@ pub use Rattle.loops.proofs.Theorems.{period-is-greatest-need}
 -- ---- the answer
 
 -- An answered network gets the smallest whole period from its floor to its ceiling at which any whole latencies meet every setup, hold and
--- window rule. At that period each register has the smallest latency it has in any such schedule.
-pub returned-answer : {f before after : List ℕ} (r : Result f before outcome.Answered after)
-    → Answer (networkOf f) (r .output .period) (r .output .latency)
+-- window rule. At that period each register has the smallest latency it has in any such schedule. Of any network and any table of numbers.
+pub returned-answer : {N : Network} {rows : List Row} {before after : List ℕ} (r : Result N rows before outcome.Answered after)
+    → Answer N (r .output .period) (r .output .latency)
 returned-answer r = r .output .answer
 
-module _ {f before after : List ℕ} {o : Outcome} (a : Accepted f) (enough : 14 + 16 * registers f ≤ length before) (r : Result f before o after) where
-  -- where there is an answer, one is returned, for number 8 and number 9 deny it
-  answer-returned : (P : ℕ) (x : ℕ → ℤ) → Answer (networkOf f) P x → o ≡ outcome.Answered
-  answer-returned P x h = go (roomy-parted r a enough)
-    where
-      from : 1 ≤ P
-      from = omega (arith, accepted-legal f a .floor-from, h .from-floor)
-
-      go : Parted r → o ≡ outcome.Answered
-      go (inl g) = absurd (g .1 P from (x, h .schedule))
-      go (inr (inl g)) = absurd (g .1 .none P from (h .to-ceiling) (x, h .schedule))
-      go (inr (inr e)) = e
-
+module _ (f : List ℕ) {before after : List ℕ} {o : Outcome} (a : Accepted f) (enough : 14 + 16 * networkOf f .registers ≤ length before) (r : FileResult f before o after) where
   -- 0 "given exactly when": an accepted file with room enough is answered exactly when there is an answer.
   pub answered-iff : (o ≡ outcome.Answered) ↔ ((P : ℕ) × (x : ℕ → ℤ) × Answer (networkOf f) P x)
-  answered-iff = (given, λ w. answer-returned (w .0) (w .1) (w .2))
-    where
-      given : o ≡ outcome.Answered → (P : ℕ) × (x : ℕ → ℤ) × Answer (networkOf f) P x
-      given e = let s : Result f before outcome.Answered after = rw e at r in (s .output .period, s .output .latency, returned-answer s)
+  answered-iff = calls.answered-iff (faults f) r a enough (accepted-legal f a .floor-from)
 
   -- An accepted file with room enough goes unanswered exactly when no such period exists.
   pub unanswered-iff : (o ≡ outcome.Answered → ⊥) ↔ ((P : ℕ) → networkOf f .floor ≤ P → P ≤ networkOf f .ceiling → Scheduled (networkOf f) P → ⊥)
-  unanswered-iff = (
-    (λ un P low high s. go un P low high s (roomy-parted r a enough)),
-    (λ none e. let w = answered-iff .0 e in none (w .0) (w .2 .from-floor) (w .2 .to-ceiling) (w .1, w .2 .schedule)),
-  )
-    where
-      go : (o ≡ outcome.Answered → ⊥) → (P : ℕ) → networkOf f .floor ≤ P → P ≤ networkOf f .ceiling → Scheduled (networkOf f) P → Parted r → ⊥
-      go un P low high s (inl g) = g .1 P (omega (arith, accepted-legal f a .floor-from)) s
-      go un P low high s (inr (inl g)) = g .1 .none P (omega (arith, accepted-legal f a .floor-from)) high s
-      go un P low high s (inr (inr e)) = un e
+  unanswered-iff = calls.unanswered-iff (faults f) r a enough (accepted-legal f a .floor-from)
 
   -- 8 "given exactly when": no schedule at any whole period, however large
   pub refused-8-iff : (o ≡ outcome.NoPeriod) ↔ NoPeriod (networkOf f)
-  refused-8-iff = (to (roomy-parted r a enough), from (roomy-parted r a enough))
-    where
-      to : Parted r → o ≡ outcome.NoPeriod → NoPeriod (networkOf f)
-      to (inl g) e = g .1
-      to (inr (inl g)) e = let d = g .0 in let z : _≡_ {A = ℕ} 0 1 = cc in absurd (omega arith)
-      to (inr (inr d)) e = let z : _≡_ {A = ℕ} 0 1 = cc in absurd (omega arith)
-
-      from : Parted r → NoPeriod (networkOf f) → o ≡ outcome.NoPeriod
-      from (inl g) n = g .0
-      from (inr (inl g)) n = let s = g .1 .some in absurd (n (s .0) (s .1) (s .2))
-      from (inr (inr d)) n =
-          let w = answered-iff .0 d in
-          let on = w .2 .from-floor in
-          absurd (n (w .0) (omega (arith, accepted-legal f a .floor-from)) (w .1, w .2 .schedule))
+  refused-8-iff = calls.no-period-iff (faults f) r a enough (accepted-legal f a .floor-from)
 
   -- 9 "given exactly when": a schedule at some period, none up to the ceiling
   pub refused-9-iff : (o ≡ outcome.NoneToCeiling) ↔ NoneToCeiling (networkOf f)
-  refused-9-iff = (to (roomy-parted r a enough), from (roomy-parted r a enough))
-    where
-      to : Parted r → o ≡ outcome.NoneToCeiling → NoneToCeiling (networkOf f)
-      to (inl g) e = let d = g .0 in let z : _≡_ {A = ℕ} 0 1 = cc in absurd (omega arith)
-      to (inr (inl g)) e = g .1
-      to (inr (inr d)) e = let z : _≡_ {A = ℕ} 0 1 = cc in absurd (omega arith)
-
-      from : Parted r → NoneToCeiling (networkOf f) → o ≡ outcome.NoneToCeiling
-      from (inl g) n = let s = n .some in absurd (g .1 (s .0) (s .1) (s .2))
-      from (inr (inl g)) n = g .0
-      from (inr (inr d)) n =
-          let w = answered-iff .0 d in
-          let on = w .2 .from-floor in
-          absurd (n .none (w .0) (omega (arith, accepted-legal f a .floor-from)) (w .2 .to-ceiling) (w .1, w .2 .schedule))
+  refused-9-iff = calls.none-to-ceiling-iff (faults f) r a enough (accepted-legal f a .floor-from)
 
   -- and nothing else is returned
   pub answered-or-refused : (o ≡ outcome.Answered) ⊎ (o ≡ outcome.NoPeriod) ⊎ (o ≡ outcome.NoneToCeiling)
-  answered-or-refused = go (roomy-parted r a enough)
-    where
-      go : Parted r → (o ≡ outcome.Answered) ⊎ (o ≡ outcome.NoPeriod) ⊎ (o ≡ outcome.NoneToCeiling)
-      go (inl g) = inr (inl (g .0))
-      go (inr (inl g)) = inr (inr (g .0))
-      go (inr (inr e)) = inl e
+  answered-or-refused = calls.answered-or-refused (faults f) r a enough (accepted-legal f a .floor-from)
 
 -- ---- its period, and the loop that is shown
 
 -- So the returned period is the larger of the floor and the greatest period that any loop needs.
-pub returned-period : {f before after : List ℕ} (r : Result f before outcome.Answered after) → GreatestNeed (networkOf f) (r .output .period)
-returned-period {f} r =
-    let a = accepted-beyond r (omega arith) in
+pub returned-period : (f : List ℕ) {before after : List ℕ} (r : FileResult f before outcome.Answered after)
+    → GreatestNeed (networkOf f) (r .output .period)
+returned-period f r =
+    let a = accepted-beyond f r refl in
     period-is-greatest-need f a (r .output .period) (r .output .latency) (returned-answer r)
 
 module _ (N : Network) where
@@ -169,13 +119,19 @@ module _ (N : Network) where
       some : 0 < setups l
       some = go (decLt 0 (setups l))
 
+-- Whatever the network, and whatever refusals its table has before 7: the loop that is shown proves it.
+pub loop-shown : (t : List Row) → Refuses t → (N : Network) {before after : List ℕ} (o : Outcome)
+    (r : Result N (t ++ scheduleRows N (length before)) before o after) → LoopProves N before o after (r .output)
+loop-shown t k N outcome.Answered r =
+    shown-least N (r .output .period) (r .output .latency) (r .output .loop) (r .output .answer) (r .output .shown)
+loop-shown t k N (outcome.Refused x) r = tt
+loop-shown t k N outcome.Room r = tt
+loop-shown t k N outcome.NoPeriod r = shown-none N (r .output .loop) (r .output .no-setups) (r .output .refutes)
+loop-shown t k N {before} outcome.NoneToCeiling r =
+    let clear = calls.clear-beyond t r k refl in
+    shown-none-to-ceiling N (r .output .loop) (calls.given-9 N (length before) 0 (calls.rest-given t r clear)) (r .output .refutes)
+
 -- And when the period is above the floor, or there is no answer, a loop that proves it is shown, given room enough.
-pub shown-loop : {f before after : List ℕ} (o : Outcome) (r : Result f before o after) → LoopProves f before o after (r .output)
-shown-loop {f} outcome.Answered r =
-    shown-least (networkOf f) (r .output .period) (r .output .latency) (r .output .loop) (r .output .answer) (r .output .shown)
-shown-loop (outcome.File x) r = tt
-shown-loop outcome.Room r = tt
-shown-loop {f} outcome.NoPeriod r = shown-none (networkOf f) (r .output .loop) (r .output .no-setups) (r .output .refutes)
-shown-loop {f} {before} outcome.NoneToCeiling r =
-    let a = accepted-beyond r (omega arith) in
-    shown-none-to-ceiling (networkOf f) (r .output .loop) (given-9 f (length before) 0 (rest-given r a)) (r .output .refutes)
+pub shown-loop : (f : List ℕ) {before after : List ℕ} (o : Outcome) (r : FileResult f before o after)
+    → LoopProves (networkOf f) before o after (r .output)
+shown-loop f o r = loop-shown (faults f) (faults-refuse f) (networkOf f) o r

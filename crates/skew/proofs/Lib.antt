@@ -1,11 +1,13 @@
 -- The theorems about the two public functions: Unique, Numbers, Demands, ReadBack and WorkedResults of the scheduler, QuestionLaws of the
--- rule question, Joined of both. The others serve the proofs of the functions' parts.
-pub mod Sums
+-- rule question, Joined of both. Calls and Asking say of any network and any refusals before 7 what Numbers, Demands and QuestionLaws say of
+-- a file. The others serve the proofs of the functions' parts.
 pub mod Limits
 pub mod Named
 pub mod Replies
-pub mod QuestionLaws
 pub mod Unique
+pub mod Calls
+pub mod Asking
+pub mod QuestionLaws
 pub mod Numbers
 pub mod Demands
 pub mod WorkedResults

@@ -1,19 +1,23 @@
--- The numbers of a question: read back by the code as themselves, tested against their ranges, and near enough to 0 for its sums.
+-- The numbers of a question: read back by the code as themselves, tested against their ranges, and small enough for the rule's sums.
 use mathlib.Core.Path.{_≡_, sym}
 use mathlib.Core.Bool.{Bool, true, _&&_}
-use Prim.Native.Nat.{ℕ}
-use lib.IntN.{ℤ, pos, negsuc}
+use mathlib.Core.List.{List}
+use Prim.Native.Nat.{ℕ, _≤_}
+use lib.IntN.{ℤ, pos, negsuc, _-ℤ_}
 use mir.Syntax.{w32}
 use mir.Val.{SFits, toZ, ofZ}
 use mir.Facts.{toZ-ofZ}
 use Rattle.whole.proofs.Lin.{lin}
-use Rattle.paper.specs.File.{natural, within}
-use Rattle.paper.proofs.Legal.{both, within-is, natural-is}
-use Rattle.network.specs.declared.Register.{Register}
-use Rattle.network.specs.declared.Path.{Path}
-use Rattle.network.proofs.Ranges.{PathRanges, RegisterRanges}
+use Rattle.paper.specs.Rules.{Rule, Setup, Hold, Low, High, base, amount}
+use Rattle.paper.specs.File.{natural, within, networkOf}
+use Rattle.paper.specs.Question.{Question, Asked}
+use Rattle.paper.proofs.Legal.{Legal, accepted-legal, both, within-is, natural-is}
+use Rattle.paper.proofs.RuleLaws.{tailRead, headRead}
+use Rattle.rules.specs.Amounts.{Small, SmallArrow}
+use Rattle.rules.proofs.Ranges.{small-between, small-less}
+use Rattle.rules.proofs.Amounts.{base-small, amount-small}
 use Rattle.skew.specs.Asked.{asked}
-use Rattle.skew.specs.Slack.{numbersWithin, Small, SmallPath, SmallRegister}
+use Rattle.skew.specs.Slack.{numbersWithin, Ready}
 
 -- ---- read back
 
@@ -59,38 +63,47 @@ pub in-numbers : {period tail head : ℤ} → Numbers period tail head → numbe
 unfolding numbersWithin
 in-numbers n = rw (n .period-within, n .tail-within, n .head-within)
 
--- a period in its range is a count
+-- ---- a rule that is asked for
+
+-- a period in its range is a count, and no greater than the paper allows
 pub period-is : {z : ℤ} → within (pos 1) (pos 10000000) z ≡ true → z ≡ pos (natural z)
 period-is {z} e = let b = within-is _ _ z e in sym (natural-is z (omega lin))
 
--- ---- near enough to 0
+period-most : (z : ℤ) → within (pos 1) (pos 10000000) z ≡ true → natural z ≤ 10000000
+period-most z e = let b = within-is _ _ z e in let i = period-is e in omega lin
 
-pub small-period : {z : ℤ} → within (pos 1) (pos 10000000) z ≡ true → Small z
-small-period {z} e = let b = within-is _ _ z e in record { from = omega lin; to = omega lin }
+small-period : {z : ℤ} → within (pos 1) (pos 10000000) z ≡ true → Small z
+small-period e = small-between (omega lin) (omega lin) (within-is _ _ _ e)
 
-pub small-latency : {z : ℤ} → within (negsuc 999999) (pos 1000000) z ≡ true → Small z
-small-latency {z} e = let b = within-is _ _ z e in record { from = omega lin; to = omega lin }
+small-latency : {z : ℤ} → within (negsuc 999999) (pos 1000000) z ≡ true → Small z
+small-latency e = small-between (omega lin) (omega lin) (within-is _ _ _ e)
 
-pub small-path : {n : ℕ} {r : Path} → PathRanges n r → SmallPath r
-small-path p =
-    let a = p .dmin in
-    let b = p .dmax in
-    let c = p .uncertainty in
-    record {
-      dmin = record { from = omega lin; to = omega lin };
-      dmax = record { from = omega lin; to = omega lin };
-      uncertainty = record { from = omega lin; to = omega lin };
-    }
+-- its amount, and the latencies that it reads, are small
+module _ {f : List ℕ} {n : ℕ} {q : Question} (p : Ready f n q) where
+  legal : Legal (networkOf f)
+  legal = accepted-legal f (p .accepted)
 
-pub small-register : {r : Register} → RegisterRanges r → SmallRegister r
-small-register p =
-    let a = p .setup in
-    let b = p .hold in
-    let c = p .low in
-    let d = p .high in
-    record {
-      setup = record { from = omega lin; to = omega lin };
-      hold = record { from = omega lin; to = omega lin };
-      low = record { from = omega lin; to = omega lin };
-      high = record { from = omega lin; to = omega lin };
-    }
+  tail-small : (r : Rule) → Small (tailRead r (q .tail-latency))
+  tail-small (Setup i) = small-latency (p .in-range .tail-within)
+  tail-small (Hold i) = small-latency (p .in-range .tail-within)
+  tail-small (Low i) = record { from = omega lin; to = omega lin }
+  tail-small (High i) = small-latency (p .in-range .tail-within)
+
+  head-small : (r : Rule) → Small (headRead r (q .head-latency))
+  head-small (Setup i) = small-latency (p .in-range .head-within)
+  head-small (Hold i) = small-latency (p .in-range .head-within)
+  head-small (Low i) = small-latency (p .in-range .head-within)
+  head-small (High i) = record { from = omega lin; to = omega lin }
+
+  pub small-arrow : (r : Rule) {d : ℤ} → Asked (networkOf f) q r → d ≡ amount (networkOf f) (natural (q .period)) r
+      → SmallArrow d (tailRead r (q .tail-latency)) (headRead r (q .head-latency))
+  small-arrow r a e =
+      record {
+        of-amount = rw e (amount-small legal (natural (q .period)) r (period-most (q .period) (p .in-range .period-within)) (a .exists));
+        at-tail = tail-small r;
+        at-head = head-small r;
+      }
+
+  -- a setup rule's amount at the period fits
+  pub period-fits : (i : ℕ) {d : ℤ} → Asked (networkOf f) q (Setup i) → d ≡ base (networkOf f) (Setup i) → SFits w32 (d -ℤ q .period)
+  period-fits i a e = rw e (small-less (base-small legal (Setup i) (a .exists)) (small-period (p .in-range .period-within)))

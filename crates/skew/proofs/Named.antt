@@ -4,7 +4,7 @@ use mathlib.Core.Bool.{Bool, true, false}
 use mathlib.Core.List.{List}
 use Prim.Native.Nat.{ℕ, _<_}
 use native.Mathlib.Omega.{arith}
-use lib.IntN.{ℤ, pos, negsuc, natAbs}
+use lib.IntN.{ℤ, pos, negsuc, natAbs, _+ℤ_, _-ℤ_}
 use lib.Signed.{_≤ℤ_, _<ℤ_}
 use lib.Dec.{ltb}
 use borrow.Author.Tests.{ltb-true, ltb-false, le-ltb}
@@ -13,10 +13,11 @@ use mir.Val.{SFits, toZ, ofZ}
 use mir.Facts.{toZ-ofZ}
 use Rattle.whole.proofs.Lin.{lin}
 use Rattle.paper.specs.Network.{Network}
-use Rattle.paper.specs.Rules.{Rule, Setup, Hold, Low, High, kind, number, Exists, slack}
+use Rattle.paper.specs.Rules.{Rule, Setup, Hold, Low, High, kind, number, Exists, amount}
 use Rattle.paper.specs.File.{natural, networkOf}
 use Rattle.paper.specs.Question.{Question, Asked}
-use Rattle.paper.proofs.TableLaws.{rule-named, asked-one}
+use Rattle.paper.proofs.RuleLaws.{tailRead, headRead, slack-is}
+use Rattle.paper.proofs.NumberLaws.{rule-named, asked-one}
 use Rattle.skew.specs.Slack.{Tells, TellsRule, Ready, IsSlack}
 
 -- ---- a test that tells whether it exists
@@ -128,9 +129,11 @@ module _ {f : List ℕ} {n : ℕ} {q : Question} (p : Ready f n q) where
       last (Low i) e = absurd (c (ap (ofZ w32) e))
       last (High i) e = e
 
--- the slack of a rule that is asked for is that of the rule
-pub is-slack : {N : Network} {q : Question} {z : ℤ} (r : Rule)
+-- the slack of the rule that is asked for is that of its arrow
+pub asked-slack : {N : Network} {q : Question} {d z : ℤ} (r : Rule)
     → Asked N q r
-    → z ≡ slack N (natural (q .period)) r (q .tail-latency) (q .head-latency)
+    → d ≡ amount N (natural (q .period)) r
+    → z ≡ headRead r (q .head-latency) -ℤ (tailRead r (q .tail-latency) +ℤ d)
     → IsSlack N q z
-is-slack {N} {q} r a e = λ s b. rw (asked-one N q s r b a) e
+asked-slack {N} {q} r a e g =
+    λ s b. rw (asked-one N q s r b a, slack-is N (natural (q .period)) r (q .tail-latency) (q .head-latency)) (rw e at g)

@@ -21,7 +21,7 @@ use Rattle.paper.specs.declared.Outcome.{Outcome}
 use Rattle.paper.specs.declared.Outcome.the-variants as outcome
 use Rattle.paper.specs.Schedule.{Answer, IsLoop, Shown}
 use Rattle.paper.specs.File.{networkOf}
-use Rattle.paper.specs.Outcome.{Result}
+use Rattle.paper.specs.Outcome.{FileResult}
 use Rattle.paper.specs.Output.{skewRecord, latencyRecord, latencyRecords, entryRecord, entryRecords, LoopAlone}
 use Rattle.paper.proofs.Legal.{Legal, accepted-legal}
 use Rattle.paper.proofs.LoopLaws.{all-at, all-map}
@@ -198,16 +198,16 @@ module _ (N : Network) (g : Legal N) where
       }
 
 -- Whatever is returned, each number of the answer and of the loop is read in the output at its place.
-pub read-back : {f before after : List ℕ} (o : Outcome) (r : Result f before o after) → ReadsBack f before o after (r .output)
-read-back {f} {before} {after} outcome.Answered r =
+pub read-back : (f : List ℕ) {before after : List ℕ} (o : Outcome) (r : FileResult f before o after) → ReadsBack (networkOf f) before o after (r .output)
+read-back f {before} {after} outcome.Answered r =
     let N : Network = networkOf f in
-    let g = accepted-legal f (accepted-beyond r (omega arith)) in
+    let g = accepted-legal f (accepted-beyond f r refl) in
     reads (r .output .period) (N .registers) (r .output .latency) (r .output .loop) after _ (answer-small N g _ _ _ (r .output .answer) (r .output .shown)) (r .output .bytes)
-read-back (outcome.File x) r = tt
-read-back outcome.Room r = tt
-read-back {f} {before} {after} outcome.NoPeriod r =
-    let g = accepted-legal f (accepted-beyond r (omega arith)) in
+read-back f (outcome.Refused x) r = tt
+read-back f outcome.Room r = tt
+read-back f {before} {after} outcome.NoPeriod r =
+    let g = accepted-legal f (accepted-beyond f r refl) in
     reads-alone (r .output .loop) before after (alone-small (networkOf f) g (r .output .loop) (r .output .refutes 0 .is-loop)) (r .output .bytes)
-read-back {f} {before} {after} outcome.NoneToCeiling r =
-    let g = accepted-legal f (accepted-beyond r (omega arith)) in
+read-back f {before} {after} outcome.NoneToCeiling r =
+    let g = accepted-legal f (accepted-beyond f r refl) in
     reads-alone (r .output .loop) before after (alone-small (networkOf f) g (r .output .loop) (r .output .refutes .is-loop)) (r .output .bytes)

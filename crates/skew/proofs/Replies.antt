@@ -1,7 +1,7 @@
 -- Each reply, from what leads to it, as a row of the paper's table.
 use mathlib.Core.Path.{_≡_, refl}
 use mathlib.Core.Logic.{inl, inr}
-use mathlib.Core.List.{List}
+use mathlib.Core.List.{List, _++_}
 use mathlib.Core.Bool.{Bool, true, false}
 use Prim.Native.Nat.{ℕ}
 use lib.IntN.{ℤ, pos}
@@ -10,15 +10,16 @@ use Rattle.whole.proofs.Lin.{lin, true-not-false}
 use Rattle.paper.specs.declared.Fault.{Fault}
 use Rattle.paper.specs.declared.Verdict.{Verdict}
 use Rattle.paper.specs.declared.Verdict.the-variants as verdict
+use Rattle.paper.specs.declared.Refusal.the-variants as refusal
+use Rattle.paper.specs.declared.Reply.{Reply}
 use Rattle.paper.specs.declared.Reply.the-variants as reply
 use Rattle.paper.specs.Network.{Network}
 use Rattle.paper.specs.Rules.{Rule}
 use Rattle.paper.specs.File.{networkOf}
-use Rattle.paper.specs.Table.{Given}
-use Rattle.paper.specs.Refusals.{faults, Accepted}
+use Rattle.paper.specs.Table.{Row, Given, Clear}
 use Rattle.paper.specs.Outcome.{Judged}
-use Rattle.paper.specs.Question.{Question, Asked, InRange, MetAsked, questionRefusals, Answers}
-use Rattle.paper.proofs.TableLaws.{given-after, question-rows}
+use Rattle.paper.specs.Question.{Question, Asked, InRange, MetAsked, questionRows, Answers, FileAnswers}
+use Rattle.paper.proofs.TableLaws.{given-after}
 use Rattle.network.proofs.Verdicts.{judged-faulty}
 use Rattle.skew.specs.Asked.{asked}
 use Rattle.skew.specs.Slack.{numbersWithin, TellsRule, IsSlack}
@@ -50,36 +51,43 @@ no-numbers e i =
 -- ---- the replies
 
 -- numbers 1 to 6: the file's own
-pub faulty-reply : {f : List ℕ} {q : Question} {v : Verdict} {x : Fault} → Judged f v → v ≡ verdict.Faulty x → Answers f q (reply.File x)
-faulty-reply {f} {q} {v} {x} g e = record { given = judged-faulty f v x (question-rows f q) g e; says = tt }
+pub faulty-reply : (f : List ℕ) {q : Question} (v : Verdict) (x : Fault) → Judged f v → v ≡ verdict.Faulty x
+    → FileAnswers f q (reply.Refused (refusal.File x))
+faulty-reply f {q} v x g e = record { given = judged-faulty f v x (questionRows (networkOf f) q) g e; says = tt }
 
-module _ (f : List ℕ) (q : Question) (a : Accepted f) where
+-- of any network N, where none of the rows t applies that come before the question's own
+module _ (N : Network) (t : List Row) (q : Question) (clear : Clear t) where
+  abbrev rows : List Row
+  rows = questionRows N q
+
+  abbrev Allowed : Reply → Type 0
+  Allowed o = Answers N (t ++ rows) q o
+
   -- number 10
-  pub question-reply : (InRange (networkOf f) q → ⊥) → Answers f q reply.Question
-  question-reply h =
-      record { given = given-after (faults f) (question-rows f q) 10 0 a (inl (refl, (h, refl))); says = tt }
+  pub question-reply : (InRange N q → ⊥) → Allowed (reply.Refused refusal.Question)
+  question-reply h = record { given = given-after t rows 10 0 clear (inl (refl, (h, refl))); says = tt }
 
-  -- number 0
-  unrefused : InRange (networkOf f) q → Given (questionRefusals f q) 0 0
-  unrefused i = given-after (faults f) (question-rows f q) 0 0 a (inr ((λ p x. x .0 i), (refl, refl)))
+  module _ (i : InRange N q) where
+    -- number 0
+    pub unrefused : Given (t ++ rows) 0 0
+    unrefused = given-after t rows 0 0 clear (inr ((λ p x. x .0 i), (refl, refl)))
 
-  module _ (i : InRange (networkOf f) q) (r : Rule) (k : Asked (networkOf f) q r) where
-    pub yes-reply : MetAsked (networkOf f) q r → Answers f q reply.Yes
-    yes-reply m = record { given = unrefused i; says = (r, k, m) }
+    pub yes-reply : (r : Rule) → Asked N q r → MetAsked N q r → Allowed reply.Yes
+    yes-reply r k m = record { given = unrefused; says = (r, k, m) }
 
-    pub no-reply : (MetAsked (networkOf f) q r → ⊥) → Answers f q reply.No
-    no-reply m = record { given = unrefused i; says = (r, k, m) }
+    pub no-reply : (r : Rule) → Asked N q r → (MetAsked N q r → ⊥) → Allowed reply.No
+    no-reply r k m = record { given = unrefused; says = (r, k, m) }
 
--- from the slack's sign
-module _ (f : List ℕ) (q : Question) (z : ℤ) (a : Accepted f) (i : InRange (networkOf f) q) (s : IsSlack (networkOf f) q z) where
-  pub slack-yes : leZ (pos 0) z ≡ true → Answers f q reply.Yes
-  slack-yes h =
-      let r = i .rule in
-      let m : pos 0 ≤ℤ z = omega lin in
-      yes-reply f q a i (r .0) (r .1) (rw (s (r .0) (r .1)) at m)
+    -- from the slack's sign
+    module _ (z : ℤ) (s : IsSlack N q z) where
+      pub slack-yes : leZ (pos 0) z ≡ true → Allowed reply.Yes
+      slack-yes h =
+          let r = i .rule in
+          let m : pos 0 ≤ℤ z = omega lin in
+          yes-reply (r .0) (r .1) (rw (s (r .0) (r .1)) at m)
 
-  pub slack-no : leZ (pos 0) z ≡ false → Answers f q reply.No
-  slack-no h =
-      let r = i .rule in
-      let n : pos 0 ≤ℤ z → ⊥ = λ m. omega lin in
-      no-reply f q a i (r .0) (r .1) (rw (s (r .0) (r .1)) at n)
+      pub slack-no : leZ (pos 0) z ≡ false → Allowed reply.No
+      slack-no h =
+          let r = i .rule in
+          let n : pos 0 ≤ℤ z → ⊥ = λ m. omega lin in
+          no-reply (r .0) (r .1) (rw (s (r .0) (r .1)) at n)

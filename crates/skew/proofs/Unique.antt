@@ -5,6 +5,7 @@ use mathlib.Core.List.{List, [], _∷_}
 use Prim.Native.Nat.{ℕ, _<_}
 use native.Mathlib.Omega.{arith}
 use lib.IntN.{ℤ}
+use lib.ListN.{length}
 use Rattle.whole.proofs.Lin.{lin}
 use Rattle.paper.specs.declared.Outcome.{Outcome}
 use Rattle.paper.specs.declared.Outcome.the-variants as outcome
@@ -12,11 +13,12 @@ use Rattle.paper.specs.Network.{Network}
 use Rattle.paper.specs.Rules.{Rule}
 use Rattle.paper.specs.Schedule.{Answer, Shown}
 use Rattle.paper.specs.File.{networkOf}
-use Rattle.paper.specs.Table.{Given}
+use Rattle.paper.specs.Table.{Row, Given}
 use Rattle.paper.specs.Refusals.{refusals}
 use Rattle.paper.specs.Output.{Answered}
-use Rattle.paper.specs.Outcome.{Left, Result}
-use Rattle.paper.proofs.TableLaws.{given-one, refusals-one-place, outcome-one}
+use Rattle.paper.specs.Outcome.{Left, Result, FileResult}
+use Rattle.paper.proofs.TableLaws.{OnePlaces, given-one, refusals-one-place}
+use Rattle.paper.proofs.NumberLaws.{outcome-one}
 use Rattle.paper.proofs.OutputLaws.{latencies-same}
 use Rattle.skew.specs.Same.{SameAnswer, SameButLoop}
 
@@ -77,17 +79,23 @@ same-answer N before after after′ a b =
     none′ : a .period ≡ N .floor → b .loop ≡ []
     none′ e = floor-no-loop N (b .period) (b .loop) (b .shown) (sym (one .0) ∙ e)
 
-left-unique : (f before : List ℕ) (o : Outcome) (after after′ : List ℕ) → Left f o before after → Left f o before after′ → SameButLoop f before o after after′
-left-unique f before outcome.Answered after after′ l m = same-answer (networkOf f) before after after′
-left-unique f before (outcome.File x) after after′ l m = l ∙ sym m
-left-unique f before outcome.Room after after′ l m = l ∙ sym m
-left-unique f before outcome.NoPeriod after after′ l m = λ a b e. cc (a .bytes, b .bytes)
-left-unique f before outcome.NoneToCeiling after after′ l m = λ a b e. cc (a .bytes, b .bytes)
+left-unique : (N : Network) (before : List ℕ) (o : Outcome) (after after′ : List ℕ) → Left N o before after → Left N o before after′
+    → SameButLoop N before o after after′
+left-unique N before outcome.Answered after after′ l m = same-answer N before after after′
+left-unique N before (outcome.Refused x) after after′ l m = l ∙ sym m
+left-unique N before outcome.Room after after′ l m = l ∙ sym m
+left-unique N before outcome.NoPeriod after after′ l m = λ a b e. cc (a .bytes, b .bytes)
+left-unique N before outcome.NoneToCeiling after after′ l m = λ a b e. cc (a .bytes, b .bytes)
+
+-- Of any network, with any table of numbers whose rows each have one place: one outcome, and one output but for the loop.
+pub result-unique : {N : Network} {rows : List Row} {before after after′ : List ℕ} {o o′ : Outcome} → OnePlaces rows
+    → Result N rows before o after → Result N rows before o′ after′ → (o ≡ o′) × SameButLoop N before o after after′
+result-unique {N} {rows} {before} {after} {after′} {o} {o′} places r s =
+    let one = outcome-one places r s in
+    (one, left-unique N before o after after′ (r .output) (rw one (s .output)))
 
 -- Each refusal has one number and one place, and the paper fixes every byte of the output after it, save which loop is shown. An answer has
 -- one period and one row of latencies, and the paper fixes its bytes likewise.
-pub schedule-unique : (f before : List ℕ) {after after′ : List ℕ} {o o′ : Outcome} → Result f before o after → Result f before o′ after′
-    → (o ≡ o′) × SameButLoop f before o after after′
-schedule-unique f before {after} {after′} {o} {o′} r s =
-    let one = outcome-one f before after after′ o o′ r s in
-    (one, left-unique f before o after after′ (r .output) (rw one (s .output)))
+pub schedule-unique : (f before : List ℕ) {after after′ : List ℕ} {o o′ : Outcome} → FileResult f before o after → FileResult f before o′ after′
+    → (o ≡ o′) × SameButLoop (networkOf f) before o after after′
+schedule-unique f before r s = result-unique (refusals-one-place f (length before)) r s

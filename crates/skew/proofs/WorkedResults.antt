@@ -6,14 +6,17 @@ use Prim.Native.Nat.{ℕ, _+_, _*_, _≤_}
 use lib.IntN.{pos}
 use lib.ListN.{length, getD, drop}
 use Rattle.paper.specs.declared.Outcome.{Outcome}
+use Rattle.paper.specs.Network.{Network}
 use Rattle.paper.specs.Rules.{Rule}
 use Rattle.paper.specs.Chains.{All}
-use Rattle.paper.specs.File.{registers, networkOf}
+use Rattle.paper.specs.File.{networkOf}
 use Rattle.paper.specs.Table.{Given}
 use Rattle.paper.specs.Refusals.{refusals}
-use Rattle.paper.specs.Outcome.{outcomeNumber, outcomePlace, Left, Result}
+use Rattle.paper.specs.Numbers.{outcomeNumber, outcomePlace}
+use Rattle.paper.specs.Outcome.{Left, FileResult}
 use Rattle.paper.specs.Cases.{Expected, answered, refused-8, refused-9, Case, Comes, numberOf, Worked, fileOf, cases}
-use Rattle.paper.proofs.TableLaws.{outcome-one}
+use Rattle.paper.proofs.TableLaws.{refusals-one-place}
+use Rattle.paper.proofs.NumberLaws.{outcome-one}
 use Rattle.paper.proofs.WorkedCases.{worked-cases}
 use Rattle.skew.specs.Rows.{outcomeOf, loopOf, bytesOf, showing, AsRow, Promised}
 use Rattle.paper.proofs.OutputLaws.{latencies-same}
@@ -31,8 +34,8 @@ row-place (refused-8 loop) = refl
 row-place (refused-9 loop) = refl
 
 -- what comes of a network is left in the output
-module _ (f before : List ℕ) where
-  row-left : (e : Expected) → Comes (networkOf f) e → Left f (outcomeOf e) before (bytesOf e ++ drop (length (bytesOf e)) before)
+module _ (N : Network) (before : List ℕ) where
+  row-left : (e : Expected) → Comes N e → Left N (outcomeOf e) before (bytesOf e ++ drop (length (bytesOf e)) before)
   row-left (answered P latencies loop) c =
       record {
         period = P;
@@ -46,25 +49,25 @@ module _ (f before : List ℕ) where
   row-left (refused-9 loop) c = record { loop = loop; refutes = c .1; bytes = refl }
 
 -- and whatever is left with the row's outcome is the row's, but for the loop
-module _ (f before after : List ℕ) where
+module _ (N : Network) (before after : List ℕ) where
   -- some loop that the paper allows stands where the row's does
   abbrev Left-as : Expected → Type 0
-  Left-as e = (loop : List Rule) × Comes (networkOf f) (showing loop e) × (after ≡ bytesOf (showing loop e) ++ drop (length (bytesOf (showing loop e))) before)
+  Left-as e = (loop : List Rule) × Comes N (showing loop e) × (after ≡ bytesOf (showing loop e) ++ drop (length (bytesOf (showing loop e))) before)
 
-  left-row : (e : Expected) → Comes (networkOf f) e → Left f (outcomeOf e) before after → Left-as e
+  left-row : (e : Expected) → Comes N e → Left N (outcomeOf e) before after → Left-as e
   left-row (answered P latencies loop) c l =
       let one = answer-unique (c .1) (l .answer) in
-      let same = latencies-same (λ i. getD latencies i (pos 0)) (l .latency) (networkOf f .registers) (one .1) in
+      let same = latencies-same (λ i. getD latencies i (pos 0)) (l .latency) (N .registers) (one .1) in
       let period = one .0 in
       (l .loop, (c .0, c .1, rw period (l .shown)), cc (c .0, l .bytes))
   left-row (refused-8 loop) c l = (l .loop, (c .0, l .no-setups, l .refutes), l .bytes)
   left-row (refused-9 loop) c l = (l .loop, (c .0, l .refutes), l .bytes)
 
   -- A row without a loop is answered at the floor, where any result has none.
-  row-no-loop : (e : Expected) → Comes (networkOf f) e → Left-as e → loopOf e ≡ [] → after ≡ bytesOf e ++ drop (length (bytesOf e)) before
+  row-no-loop : (e : Expected) → Comes N e → Left-as e → loopOf e ≡ [] → after ≡ bytesOf e ++ drop (length (bytesOf e)) before
   row-no-loop (answered P latencies loop) c l e =
-      let floor : P ≡ networkOf f .floor = rw e at (c .2) in
-      let none = floor-no-loop (networkOf f) P (l .0) (l .1 .2) floor in
+      let floor : P ≡ N .floor = rw e at (c .2) in
+      let none = floor-no-loop N P (l .0) (l .1 .2) floor in
       cc (l .2)
   row-no-loop (refused-8 loop) c l e = absurd (rw e at (c .2 0 .is-loop .loop))
   row-no-loop (refused-9 loop) c l e = absurd (rw e at (c .1 .is-loop .loop))
@@ -76,25 +79,25 @@ worked-promised c w = record { allowed = allowed; only = only }
     f : List ℕ
     f = fileOf (c .network)
 
-    given : (before : List ℕ) → 14 + 16 * registers f ≤ length before
+    given : (before : List ℕ) → 14 + 16 * networkOf f .registers ≤ length before
         → Given (refusals f (length before)) (outcomeNumber (outcomeOf (c .result))) (outcomePlace (outcomeOf (c .result)))
     given before enough = rw (row-number (c .result), row-place (c .result)) (w .given (length before) enough)
 
-    allowed : (before : List ℕ) → 14 + 16 * registers f ≤ length before
-        → Result f before (outcomeOf (c .result)) (bytesOf (c .result) ++ drop (length (bytesOf (c .result))) before)
-    allowed before enough = record { given = given before enough; output = row-left f before (c .result) (w .comes) }
+    allowed : (before : List ℕ) → 14 + 16 * networkOf f .registers ≤ length before
+        → FileResult f before (outcomeOf (c .result)) (bytesOf (c .result) ++ drop (length (bytesOf (c .result))) before)
+    allowed before enough = record { given = given before enough; output = row-left (networkOf f) before (c .result) (w .comes) }
 
-    only : (before after : List ℕ) (o : Outcome) → 14 + 16 * registers f ≤ length before → Result f before o after → AsRow c before o after
+    only : (before after : List ℕ) (o : Outcome) → 14 + 16 * networkOf f .registers ≤ length before → FileResult f before o after → AsRow c before o after
     only before after o enough r =
-        let one = outcome-one f before after (bytesOf (c .result) ++ drop (length (bytesOf (c .result))) before) o (outcomeOf (c .result)) r (allowed before enough) in
-        let l = left-row f before after (c .result) (w .comes) (rw one at (r .output)) in
+        let one = outcome-one (refusals-one-place f (length before)) r (allowed before enough) in
+        let l = left-row (networkOf f) before after (c .result) (w .comes) (rw one at (r .output)) in
         record {
           number-is = rw one (row-number (c .result));
           place-is = rw one (row-place (c .result));
           loop = l .0;
           comes = l .1;
           bytes = l .2;
-          no-loop = row-no-loop f before after (c .result) (w .comes) l;
+          no-loop = row-no-loop (networkOf f) before after (c .result) (w .comes) l;
         }
 
 -- "Cases A to F above (eleven in all) are checked .. as a single table under one proved statement.": the paper's results are the scheduler's

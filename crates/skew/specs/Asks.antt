@@ -9,7 +9,8 @@ use Rattle.paper.specs.declared.Reply.the-variants as reply
 use Rattle.paper.specs.Network.{Network}
 use Rattle.paper.specs.Rules.{Rule, kind, number, tail, head}
 use Rattle.paper.specs.File.{networkOf}
-use Rattle.paper.specs.Question.{Question, InRange, Answers}
+use Rattle.paper.specs.Table.{Row}
+use Rattle.paper.specs.Question.{Question, InRange, Answers, questionRefusals}
 
 -- whether rule r is met at period P by the latencies x: it "names a file, a period, a rule by kind and number, and the latencies at the
 -- arrow's tail and head"
@@ -28,7 +29,11 @@ abbrev pub LatenciesInRange : Network → (ℕ → ℤ) → Type 0
 LatenciesInRange N x = (i : ℕ) → i < N .registers → (negsuc 999999 ≤ℤ x i) × (x i ≤ℤ pos 1000000)
 
 -- The question is not refused, and yes is the one reply to it.
-pub record SaysYes (f : List ℕ) (q : Question) : Type 0 where
-  pub in-range : InRange (networkOf f) q
-  pub allowed : Answers f q reply.Yes
-  pub only : (o : Reply) → Answers f q o → o ≡ reply.Yes
+pub record SaysYes (N : Network) (rows : List Row) (q : Question) : Type 0 where
+  pub in-range : InRange N q
+  pub allowed : Answers N rows q reply.Yes
+  pub only : (o : Reply) → Answers N rows q o → o ≡ reply.Yes
+
+-- a file's question
+abbrev pub FileSaysYes : List ℕ → Question → Type 0
+FileSaysYes f q = SaysYes (networkOf f) (questionRefusals f q) q

@@ -8,7 +8,7 @@ use Rattle.whole.specs.Four.{numberAt}
 use Rattle.paper.specs.declared.Outcome.{Outcome}
 use Rattle.paper.specs.declared.Outcome.the-variants as outcome
 use Rattle.paper.specs.Rules.{Rule, Low, kind, number}
-use Rattle.paper.specs.File.{networkOf}
+use Rattle.paper.specs.Network.{Network}
 use Rattle.paper.specs.Outcome.{Left}
 
 -- `SK` period, number of latencies, number of loop entries (14 bytes); then for each register `LT` latency (6 bytes); then for each loop
@@ -22,9 +22,9 @@ pub record Reads (after : List ℕ) (P n : ℕ) (x : ℕ → ℤ) (l : List Rule
   pub entry-number : (j : ℕ) → j < length l → numberAt after (14 + 6 * n + 10 * j + 6) ≡ pos (number (getD l j (Low 0)))
 
 -- by cases of the outcome: the answer, or the loop alone after "`SK` 0, 0, count"
-abbrev pub ReadsBack : (f before : List ℕ) (o : Outcome) (after : List ℕ) → Left f o before after → Type 0
-ReadsBack f before outcome.Answered after l = Reads after (l .period) (networkOf f .registers) (l .latency) (l .loop)
-ReadsBack f before (outcome.File x) after l = Unit {0}
-ReadsBack f before outcome.Room after l = Unit {0}
-ReadsBack f before outcome.NoPeriod after l = Reads after 0 0 (λ i. pos 0) (l .loop)
-ReadsBack f before outcome.NoneToCeiling after l = Reads after 0 0 (λ i. pos 0) (l .loop)
+abbrev pub ReadsBack : (N : Network) (before : List ℕ) (o : Outcome) (after : List ℕ) → Left N o before after → Type 0
+ReadsBack N before outcome.Answered after l = Reads after (l .period) (N .registers) (l .latency) (l .loop)
+ReadsBack N before (outcome.Refused x) after l = Unit {0}
+ReadsBack N before outcome.Room after l = Unit {0}
+ReadsBack N before outcome.NoPeriod after l = Reads after 0 0 (λ i. pos 0) (l .loop)
+ReadsBack N before outcome.NoneToCeiling after l = Reads after 0 0 (λ i. pos 0) (l .loop)

@@ -8,9 +8,10 @@ use lib.ListN.{length, getD, drop}
 use Rattle.paper.specs.declared.Outcome.{Outcome}
 use Rattle.paper.specs.declared.Outcome.the-variants as outcome
 use Rattle.paper.specs.Rules.{Rule}
-use Rattle.paper.specs.File.{registers, networkOf}
+use Rattle.paper.specs.File.{networkOf}
 use Rattle.paper.specs.Output.{skewRecord, latencyRecords, entryRecords, Front}
-use Rattle.paper.specs.Outcome.{outcomeNumber, outcomePlace, Result}
+use Rattle.paper.specs.Numbers.{outcomeNumber, outcomePlace}
+use Rattle.paper.specs.Outcome.{FileResult}
 use Rattle.paper.specs.Cases.{Expected, answered, refused-8, refused-9, Case, Comes, numberOf, fileOf}
 
 -- the outcome, the loop and the bytes that a row names
@@ -50,8 +51,8 @@ pub record AsRow (c : Case) (before : List ℕ) (o : Outcome) (after : List ℕ)
 
 pub record Promised (c : Case) : Type 0 where
   -- the row is allowed
-  pub allowed : (before : List ℕ) → 14 + 16 * registers (fileOf (c .network)) ≤ length before
-      → Result (fileOf (c .network)) before (outcomeOf (c .result)) (bytesOf (c .result) ++ drop (length (bytesOf (c .result))) before)
+  pub allowed : (before : List ℕ) → 14 + 16 * networkOf (fileOf (c .network)) .registers ≤ length before
+      → FileResult (fileOf (c .network)) before (outcomeOf (c .result)) (bytesOf (c .result) ++ drop (length (bytesOf (c .result))) before)
   -- whatever is allowed is the row's
-  pub only : (before after : List ℕ) (o : Outcome) → 14 + 16 * registers (fileOf (c .network)) ≤ length before
-      → Result (fileOf (c .network)) before o after → AsRow c before o after
+  pub only : (before after : List ℕ) (o : Outcome) → 14 + 16 * networkOf (fileOf (c .network)) .registers ≤ length before
+      → FileResult (fileOf (c .network)) before o after → AsRow c before o after

@@ -6,7 +6,6 @@ use Prim.Native.Nat.{ℕ, _<_}
 use Rattle.paper.specs.declared.Outcome.{Outcome}
 use Rattle.paper.specs.declared.Outcome.the-variants as outcome
 use Rattle.paper.specs.Network.{Network}
-use Rattle.paper.specs.File.{networkOf}
 use Rattle.paper.specs.Output.{Answered, NoPeriodShown, NoneToCeilingShown}
 
 -- Two answers to one network: one period, one latency for each register, and where the loops are one, one output. At the floor there is no
@@ -17,14 +16,14 @@ pub record SameAnswer (N : Network) (before after after′ : List ℕ) (a : Answ
   pub but-loop : a .loop ≡ b .loop → after ≡ after′
   pub at-floor : a .period ≡ N .floor → (a .loop ≡ []) × (b .loop ≡ []) × (after ≡ after′)
 
--- Two outputs, left with one outcome: numbers 1 to 7 leave one output; an answer, and numbers 8 and 9, leave one output but for the loop,
+-- Two outputs, left with one outcome: number 7 and what comes before it leave one output; an answer, and numbers 8 and 9, leave one output but for the loop,
 -- however the two outputs are read.
-abbrev pub SameButLoop : List ℕ → List ℕ → Outcome → List ℕ → List ℕ → Type 0
-SameButLoop f before outcome.Answered after after′ =
-    (a : Answered (networkOf f) before after) (b : Answered (networkOf f) before after′) → SameAnswer (networkOf f) before after after′ a b
-SameButLoop f before (outcome.File x) after after′ = after ≡ after′
-SameButLoop f before outcome.Room after after′ = after ≡ after′
-SameButLoop f before outcome.NoPeriod after after′ =
-    (a : NoPeriodShown (networkOf f) before after) (b : NoPeriodShown (networkOf f) before after′) → a .loop ≡ b .loop → after ≡ after′
-SameButLoop f before outcome.NoneToCeiling after after′ =
-    (a : NoneToCeilingShown (networkOf f) before after) (b : NoneToCeilingShown (networkOf f) before after′) → a .loop ≡ b .loop → after ≡ after′
+abbrev pub SameButLoop : Network → List ℕ → Outcome → List ℕ → List ℕ → Type 0
+SameButLoop N before outcome.Answered after after′ =
+    (a : Answered N before after) (b : Answered N before after′) → SameAnswer N before after after′ a b
+SameButLoop N before (outcome.Refused x) after after′ = after ≡ after′
+SameButLoop N before outcome.Room after after′ = after ≡ after′
+SameButLoop N before outcome.NoPeriod after after′ =
+    (a : NoPeriodShown N before after) (b : NoPeriodShown N before after′) → a .loop ≡ b .loop → after ≡ after′
+SameButLoop N before outcome.NoneToCeiling after after′ =
+    (a : NoneToCeilingShown N before after) (b : NoneToCeilingShown N before after′) → a .loop ≡ b .loop → after ≡ after′

@@ -10,7 +10,6 @@ use Rattle.paper.specs.declared.Outcome.the-variants as outcome
 use Rattle.paper.specs.Network.{Network}
 use Rattle.paper.specs.Rules.{Rule}
 use Rattle.paper.specs.Schedule.{Refutes, setups, need}
-use Rattle.paper.specs.File.{networkOf}
 use Rattle.paper.specs.Refusals.{Scheduled, NoPeriod}
 use Rattle.paper.specs.Outcome.{Left}
 
@@ -34,10 +33,10 @@ pub record ProvesNoneToCeiling (N : Network) (l : List Rule) : Type 0 where
   pub has-setup : 0 < setups l
   pub needs : pos (N .ceiling) <ℤ need N l
 
--- what the loop in the output proves, by cases of the outcome; numbers 1 to 7 write none
-abbrev pub LoopProves : (f before : List ℕ) (o : Outcome) (after : List ℕ) → Left f o before after → Type 0
-LoopProves f before outcome.Answered after l = networkOf f .floor < l .period → ProvesLeast (networkOf f) (l .period) (l .loop)
-LoopProves f before (outcome.File x) after l = Unit {0}
-LoopProves f before outcome.Room after l = Unit {0}
-LoopProves f before outcome.NoPeriod after l = ProvesNone (networkOf f) (l .loop)
-LoopProves f before outcome.NoneToCeiling after l = ProvesNoneToCeiling (networkOf f) (l .loop)
+-- what the loop in the output proves, by cases of the outcome; number 7 and what comes before it write none
+abbrev pub LoopProves : (N : Network) (before : List ℕ) (o : Outcome) (after : List ℕ) → Left N o before after → Type 0
+LoopProves N before outcome.Answered after l = N .floor < l .period → ProvesLeast N (l .period) (l .loop)
+LoopProves N before (outcome.Refused x) after l = Unit {0}
+LoopProves N before outcome.Room after l = Unit {0}
+LoopProves N before outcome.NoPeriod after l = ProvesNone N (l .loop)
+LoopProves N before outcome.NoneToCeiling after l = ProvesNoneToCeiling N (l .loop)

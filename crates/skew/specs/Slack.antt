@@ -4,9 +4,6 @@ use mathlib.Core.List.{List}
 use mathlib.Core.Bool.{Bool, true, false, _&&_}
 use Prim.Native.Nat.{ℕ}
 use lib.IntN.{ℤ, pos, negsuc}
-use lib.Signed.{_≤ℤ_}
-use Rattle.network.specs.declared.Register.{Register}
-use Rattle.network.specs.declared.Path.{Path}
 use Rattle.paper.specs.Network.{Network}
 use Rattle.paper.specs.Rules.{Rule, slack}
 use Rattle.paper.specs.File.{natural, within, networkOf}
@@ -31,22 +28,6 @@ abbrev pub TellsRule : ℕ → ℕ → ℤ → ℤ → Bool → Type 0
 TellsRule n m kind number t =
     (N : Network) → n ≡ N .registers → m ≡ N .paths → (period tail head : ℤ)
     → Tells t ((r : Rule) × Asked N (asked period kind number tail head) r)
-
--- Nothing that a slack is made of lies further from 0 than the longest period does, so sums of a few such numbers fit 32 bits.
-pub record Small (z : ℤ) : Type 0 where
-  pub from : negsuc 9999999 ≤ℤ z
-  pub to : z ≤ℤ pos 10000000
-
-pub record SmallPath (path : Path) : Type 0 where
-  pub dmin : Small (path .dmin .0)
-  pub dmax : Small (path .dmax .0)
-  pub uncertainty : Small (path .uncertainty .0)
-
-pub record SmallRegister (register : Register) : Type 0 where
-  pub setup : Small (register .setup .0)
-  pub hold : Small (register .hold .0)
-  pub low : Small (register .low .0)
-  pub high : Small (register .high .0)
 
 -- a question that is not refused: the file is accepted, with n registers, and the question is in range
 pub record Ready (f : List ℕ) (n : ℕ) (q : Question) : Type 0 where

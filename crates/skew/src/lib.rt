@@ -1,4 +1,3 @@
 // Clock skew scheduling: the module's two public functions. Their contracts speak of the paper alone; the theorems about them are in proofs/.
-pub mod codes;
 pub mod question;
 pub mod schedule;

@@ -5,16 +5,20 @@ use mathlib.Core.List.{List}
 use Prim.Native.Nat.{ℕ}
 use Rattle.paper.specs.Question.{Question}
 use Rattle.skew.specs.Same.{SameButLoop}
-use Rattle.paper.proofs.TableLaws.{reply-one}
+use Rattle.paper.specs.File.{networkOf}
+use Rattle.paper.proofs.TableLaws.{question-refusals-one-place}
+use Rattle.paper.proofs.NumberLaws.{reply-one}
 use Rattle.skew.proofs.Unique.{schedule-unique}
 use Rattle.skew_c.specs.Packed.{packedOutcome, packedReply}
 use Rattle.skew_c.specs.Returned.{Scheduled, Replied}
 
 pub scheduled-unique : (f before : List ℕ) {after after′ : List ℕ} {r s : ℕ} (a : Scheduled f before r after) → Scheduled f before s after′
-    → (r ≡ s) × SameButLoop f before (a .outcome) after after′
+    → (r ≡ s) × SameButLoop (networkOf f) before (a .outcome) after after′
 scheduled-unique f before a b =
     let one = schedule-unique f before (a .result) (b .result) in
     (a .is-packed ∙ ap packedOutcome (one .0) ∙ sym (b .is-packed), one .1)
 
-pub replied-unique : {f : List ℕ} {q : Question} {r s : ℕ} → Replied f q r → Replied f q s → r ≡ s
-replied-unique a b = a .is-packed ∙ ap packedReply (reply-one _ _ _ _ (a .answers) (b .answers)) ∙ sym (b .is-packed)
+pub replied-unique : (f : List ℕ) (q : Question) {r s : ℕ} → Replied f q r → Replied f q s → r ≡ s
+replied-unique f q a b =
+    let one = reply-one (question-refusals-one-place f q) (a .answers) (b .answers) in
+    a .is-packed ∙ ap packedReply one ∙ sym (b .is-packed)

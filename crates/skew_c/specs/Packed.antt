@@ -4,8 +4,7 @@ use Prim.Native.Nat.{ℕ, _+_, _*_, _/_, _%_}
 use Rattle.paper.specs.declared.Outcome.{Outcome}
 use Rattle.paper.specs.declared.Reply.{Reply}
 use Rattle.paper.specs.declared.Reply.the-variants as reply
-use Rattle.paper.specs.Outcome.{outcomeNumber, outcomePlace}
-use Rattle.paper.specs.Question.{replyNumber, replyPlace}
+use Rattle.paper.specs.Numbers.{outcomeNumber, outcomePlace, replyNumber, replyPlace}
 
 -- 2^31: every place lies below it
 abbrev pub mostPlaces : ℕ
@@ -19,8 +18,7 @@ packed number place met = number + place * 4294967296 + met * 922337203685477580
 abbrev pub yesOf : Reply → ℕ
 yesOf reply.Yes = 1
 yesOf reply.No = 0
-yesOf (reply.File x) = 0
-yesOf reply.Question = 0
+yesOf (reply.Refused x) = 0
 
 abbrev pub packedOutcome : Outcome → ℕ
 packedOutcome o = packed (outcomeNumber o) (outcomePlace o) 0

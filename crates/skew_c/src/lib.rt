@@ -14,8 +14,8 @@ pub extern "C" fn skew_schedule(file: &[u8], out: &mut [u8]) -> u64
     ensures { λ r. ⌜ Scheduled (now (file .entry)) (now (out .entry)) r (now (out .exit)) ⌝ }
 {
     let o = skew::schedule::schedule(file, out);
-    let number = skew::codes::outcome_number(o);
-    let place = skew::codes::outcome_place(o);
+    let number = paper::codes::outcome_number(o);
+    let place = paper::codes::outcome_place(o);
     pack(number, place, 0)
 }
 
@@ -32,8 +32,8 @@ pub extern "C" fn skew_question(
     ensures { λ r. ⌜ Replied (now (file .entry)) (asked period kind number tail head) r ⌝ }
 {
     let o = skew::question::question(file, period, kind, number, tail, head);
-    let refusal = skew::codes::reply_number(o);
-    let place = skew::codes::reply_place(o);
+    let refusal = paper::codes::reply_number(o);
+    let place = paper::codes::reply_place(o);
     let met = yes_of(o);
     pack(refusal, place, met)
 }
@@ -45,8 +45,7 @@ fn yes_of(o: Reply) -> u64
     match o {
         Reply::Yes => 1,
         Reply::No => 0,
-        Reply::File(_) => 0,
-        Reply::Question => 0,
+        Reply::Refused(_) => 0,
     }
 }
 

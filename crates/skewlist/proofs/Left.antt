@@ -1,5 +1,5 @@
 -- Whatever the scheduler returns and leaves can be listed: what the answer's first record counts is small and stands in the answer.
-use mathlib.Core.Path.{_≡_, sym, ap}
+use mathlib.Core.Path.{_≡_, refl, sym, ap}
 use mathlib.Core.List.{List}
 use Prim.Native.Nat.{ℕ, _≤_}
 use native.Mathlib.Omega.{arith}
@@ -12,7 +12,7 @@ use Rattle.paper.specs.Network.{Network}
 use Rattle.paper.specs.File.{networkOf}
 use Rattle.paper.specs.Refusals.{Accepted}
 use Rattle.paper.specs.Output.{Front}
-use Rattle.paper.specs.Outcome.{Result}
+use Rattle.paper.specs.Outcome.{FileResult}
 use Rattle.paper.proofs.Legal.{accepted-legal, accepted-length}
 use Rattle.skew.proofs.Numbers.{accepted-beyond}
 use Rattle.skew.proofs.ReadBack.{answer-small, alone-small}
@@ -24,21 +24,21 @@ use Rattle.listing.proofs.Answers.{answered-listable, loop-listable}
 reaches : (f : List ℕ) → Accepted f → 18 ≤ length f
 reaches f a = omega (arith, accepted-length f a)
 
-pub counted : {f before after : List ℕ} (o : Outcome) → Result f before o after → Counted f o after
-counted {f} {before} {after} outcome.Answered r =
+pub counted : (f : List ℕ) {before after : List ℕ} (o : Outcome) → FileResult f before o after → Counted f o after
+counted f {before} {after} outcome.Answered r =
     let N : Network = networkOf f in
-    let a = accepted-beyond r (omega arith) in
+    let a = accepted-beyond f r refl in
     let g = accepted-legal f a in
     let s = answer-small N g (r .output .period) (r .output .latency) (r .output .loop) (r .output .answer) (r .output .shown) in
     answered-listable N before after (r .output) (omega (arith, s .period)) (s .count) (s .entries)
-counted (outcome.File x) r = tt
-counted outcome.Room r = tt
-counted {f} {before} {after} outcome.NoPeriod r =
-    let a = accepted-beyond r (omega arith) in
+counted f (outcome.Refused x) r = tt
+counted f outcome.Room r = tt
+counted f {before} {after} outcome.NoPeriod r =
+    let a = accepted-beyond f r refl in
     let s = alone-small (networkOf f) (accepted-legal f a) (r .output .loop) (r .output .refutes 0 .is-loop) in
     loop-listable f (r .output .loop) before after (r .output .bytes) (s .entries) (reaches f a)
-counted {f} {before} {after} outcome.NoneToCeiling r =
-    let a = accepted-beyond r (omega arith) in
+counted f {before} {after} outcome.NoneToCeiling r =
+    let a = accepted-beyond f r refl in
     let s = alone-small (networkOf f) (accepted-legal f a) (r .output .loop) (r .output .refutes .is-loop) in
     loop-listable f (r .output .loop) before after (r .output .bytes) (s .entries) (reaches f a)
 
@@ -49,10 +49,10 @@ fits bytes before after n f e =
     let le : n ≤ length after = omega (arith, length-append bytes (drop (length bytes) before)) in
     (le, sym (length-take-le n after le))
 
-pub listed-as : {f before answer blank text : List ℕ} {n : ℕ} (o : Outcome) → Result f before o answer
+pub listed-as : (f : List ℕ) {before answer blank text : List ℕ} {n : ℕ} (o : Outcome) → FileResult f before o answer
     → (Front (textOf f o answer) blank text) × (n ≡ length (textOf f o answer))
     → (Listing f before answer blank text n) × Counts n text
-listed-as {f} {before} {answer} {blank} {text} {n} o r e = (
+listed-as f {before} {answer} {blank} {text} {n} o r e = (
   record { outcome = o; result = r; front = e .0; size-is = e .1 },
   fits (textOf f o answer) blank text n (e .0) (e .1),
 )

@@ -5,11 +5,11 @@ use Prim.Native.Nat.{ℕ}
 use lib.ListN.{length}
 use Rattle.paper.specs.declared.Outcome.{Outcome}
 use Rattle.paper.specs.Output.{Front}
-use Rattle.paper.specs.Outcome.{Result}
+use Rattle.paper.specs.Outcome.{FileResult}
 use Rattle.listing.specs.Text.{textOf}
 
 pub record Listing (file before answer blank text : List ℕ) (size : ℕ) : Type 0 where
   pub outcome : Outcome
-  pub result : Result file before outcome answer
+  pub result : FileResult file before outcome answer
   pub front : Front (textOf file outcome answer) blank text
   pub size-is : size ≡ length (textOf file outcome answer)

@@ -1,9 +1,12 @@
 // Whole numbers in a byte slice: four bytes each, two's complement, low byte first. Each contract cites one definition of specs/Four.antt.
+// And a quotient rounded up, by specs/Rounding.antt.
 ghost use mathlib.Core.Path.{_≡_};
 ghost use Prim.Native.Nat.{_+_, _≤_, _<_};
 ghost use lib.ListN.{length};
 ghost use lib.Seq.{sets};
+ghost use lib.IntN.{pos, negℤ};
 ghost use Rattle.whole.specs.Four.{wordAt, signedOf, numberAt, wordOf, bytesOf, four};
+ghost use Rattle.whole.specs.Rounding.{roundUp, IsUp};
 
 // A byte as a wider number: below 256, which its callers' sums rest on.
 fn wide(b: u8) -> u32
@@ -63,4 +66,33 @@ pub fn put_number(out: &mut [u8], at: usize, z: i32)
     ensures { λ _. ⌜ now (out .exit) ≡ sets (now (out .entry)) at (four z) ⌝ }
 {
     put_word(out, at, unsigned(z));
+}
+
+// A quotient of natural numbers, rounded up. One less than n is divided, so that no sum can leave its width.
+fn quotient_up(n: usize, k: usize) -> usize
+    requires { ⌜ 0 < k ⌝ }
+    ensures { λ r. ⌜ IsUp n k r ⌝ }
+{
+    if n == 0 { 0 } else { (n - 1) / k + 1 }
+}
+
+// -q. The least whole number of 64 bits has no counterpart above 0, so one less than q changes its sign.
+fn negative(q: usize) -> i64
+    requires { ⌜ q ≤ 9223372036854775808 ⌝ }
+    ensures { λ r. ⌜ r ≡ negℤ (pos q) ⌝ }
+{
+    if q == 0 { 0 } else { -1 - (q - 1) as i64 }
+}
+
+// The quotient of any whole number by a positive one, rounded up: below 0 the quotient of -z is rounded down.
+pub fn round_up(z: i64, k: usize) -> i64
+    requires { ⌜ 0 < k ⌝ }
+    ensures { λ r. ⌜ r ≡ roundUp z k ⌝ }
+{
+    if 0 <= z {
+        quotient_up(z as usize, k) as i64
+    } else {
+        let less = (-1 - z) as usize;
+        negative((less + 1) / k)
+    }
 }

@@ -7,7 +7,7 @@ use mir.Syntax.{w32}
 use mir.Val.{SFits, toZ, ofZ}
 use borrow.Author.Needs.{needs}
 use Rattle.listing.specs.Text.{line, periodWord}
-use Rattle.listing.proofs.Runs.{named, long}
+use Rattle.text.proofs.Runs.{named, long}
 use Rattle.listing.proofs.Lines.{without-loop, with-loop, same-count, not-negative, less-one-fits}
 use Rattle.listing.proofs.answered.Statement.{statement}
 use Rattle.listing.proofs.answered.Tie as tie

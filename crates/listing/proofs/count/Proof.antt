@@ -5,7 +5,7 @@ use lib.Signed.{_≤ℤ_}
 use mir.Syntax.{w32}
 use mir.Val.{SFits}
 use mir.Facts.{toZ-ofZ}
-use Rattle.listing.proofs.Signs.{kept, natural-is}
+use Rattle.text.proofs.Signs.{kept, natural-is}
 use borrow.Author.Needs.{needs}
 use Rattle.listing.proofs.count.Statement.{statement}
 use Rattle.listing.proofs.count.Tie as tie

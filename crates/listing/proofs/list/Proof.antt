@@ -1,6 +1,6 @@
 -- `listing::list` meets its contract: what stands from the start on stands at the front, since there is room for it.
 use native.Mathlib.Omega.{arith}
-use Rattle.listing.proofs.Runs.{front}
+use Rattle.listing.proofs.Lines.{front}
 use borrow.Author.Needs.{needs}
 use Rattle.listing.proofs.list.Statement.{statement}
 use Rattle.listing.proofs.list.Tie as tie

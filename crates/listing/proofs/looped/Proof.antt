@@ -5,13 +5,23 @@ use mir.Facts.{toZ-ofZ}
 use mir.Syntax.{w32}
 use mir.Val.{SFits}
 use borrow.Author.Needs.{needs}
-use Rattle.listing.proofs.Runs.{long}
+use Rattle.text.proofs.Runs.{long}
 use Rattle.listing.proofs.Lines.{looped-written, same-count, not-negative}
 use Rattle.listing.proofs.looped.Statement.{statement}
 use Rattle.listing.proofs.looped.Tie as tie
 
-k-is : (c : tie.After-count) → c .count .result ≡ c .before .before .before .before .pre .0 .k
-k-is c = same-count _ _ _ (c .count .ensures) (c .before .before .before .before .pre .0 .entries-are)
+-- the places of the code: behind the count, and behind the line of the refusal
+abbrev from-count : tie.After-count → tie.Start
+from-count c = c .before .before .before .before
+
+abbrev count-of : tie.After-put-refusal → tie.After-count
+count-of c = c .before .before .before
+
+abbrev line-of : tie.After-put-loop → tie.After-put-refusal
+line-of c = c .before .before .before .before
+
+k-is : (c : tie.After-count) → c .count .result ≡ from-count c .pre .0 .k
+k-is c = same-count _ _ _ (c .count .ensures) (from-count c .pre .0 .entries-are)
 
 count-requires : tie.Need-count-requires
 count-requires c κs = let f = c .before .before .before .pre .0 in (omega (arith, f .within), not-negative _ _ (f .entries-are))
@@ -19,32 +29,34 @@ count-requires c κs = let f = c .before .before .before .pre .0 in (omega (arit
 number-requires : tie.Need-number-requires
 number-requires c κs = search needs
 
-put-refused-requires : tie.Need-put-refused-requires
-put-refused-requires c κs = search needs
+put-refusal-requires : tie.Need-put-refusal-requires
+put-refusal-requires c κs = search needs
 
 put-loop-requires : tie.Need-put-loop-requires
 put-loop-requires c κs =
-    let s = c .before .before .before .before .before .before .before .before .before .before in
+    let line = c .before .before .before in
+    let s = from-count (count-of line) in
     let f = s .pre .0 in
-    let e = k-is (c .before .before .before .before .before .before) in
-    let w = c .before .before .before .put-refused .ensures in
+    let e = k-is (count-of line) in
+    let w = line .put-refusal .ensures in
     let l = long (w .0) in
-    (omega (arith, f .within), omega (arith, f .few-entries, w .1, s .pre .1 .0))
+    (omega (arith, f .within), omega (arith, f .few-entries, w .1, s .pre .1))
 
 same-length : tie.Need-same-length
 same-length c = search needs
 
 returns : tie.Need-returns
 returns c =
-    let s = c .before .before .before .before .before .before .before .before .before .before .before .before .before in
-    let f = s .pre .0 in
-    let count = c .before .before .before .before .before .before .before .before .before in
-    let number = c .before .before .before .before .before .before .before .before in
-    let w = c .before .before .before .before .before .before .put-refused .ensures in
-    let v = c .before .before .put-loop .ensures in
+    let loop = c .before .before in
+    let line = line-of loop in
+    let number = line .before .before in
+    let count = count-of line in
+    let f = from-count count .pre .0 in
+    let w = line .put-refusal .ensures in
+    let v = loop .put-loop .ensures in
     let e = k-is count in
     let g : SFits w32 (number .number .result) = search needs in (
-      looped-written _ _ _ _ _ _ _ _ (s .args .number) _ (count .count .ensures) (toZ-ofZ g ∙ number .number .ensures) (w .0) (v .0),
+      looped-written _ _ _ _ _ _ _ _ _ _ (count .count .ensures) (toZ-ofZ g ∙ number .number .ensures) (w .0) (v .0),
       omega (arith, f .few-entries, w .1, v .1),
     )
 
@@ -54,7 +66,7 @@ looped-spec =
     (tie.spec
     count-requires
     number-requires
-    put-refused-requires
+    put-refusal-requires
     put-loop-requires
     same-length
     returns)

@@ -7,7 +7,7 @@ use borrow.Author.Needs.{needs}
 use mir.Syntax.{w32}
 use mir.Val.{SFits}
 use Rattle.listing.specs.Text.{entryLines}
-use Rattle.listing.proofs.Runs.{named}
+use Rattle.text.proofs.Runs.{named}
 use Rattle.listing.proofs.Lines.{Lines, lines-none, lines-more, lines-all, entry-none, entry-more, line-is}
 use Rattle.listing.proofs.put_entries.Statement.{statement}
 use Rattle.listing.proofs.put_entries.Tie as tie

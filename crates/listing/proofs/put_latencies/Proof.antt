@@ -7,7 +7,7 @@ use borrow.Author.Needs.{needs}
 use mir.Syntax.{w32}
 use mir.Val.{SFits}
 use Rattle.listing.specs.Text.{latencyLine, latencyLines}
-use Rattle.listing.proofs.Runs.{named}
+use Rattle.text.proofs.Runs.{named}
 use Rattle.listing.proofs.Lines.{Lines, lines-none, lines-more, lines-all, latency-none, latency-more}
 use Rattle.listing.proofs.put_latencies.Statement.{statement}
 use Rattle.listing.proofs.put_latencies.Tie as tie

@@ -3,7 +3,7 @@ use mathlib.Core.Path.{_∙_}
 use native.Mathlib.Omega.{arith}
 use lib.ListN.{length-set}
 use mir.Facts.{toZ-ofZ}
-use Rattle.listing.proofs.Runs.{long}
+use Rattle.text.proofs.Runs.{long}
 use Rattle.listing.proofs.Lines.{line-written}
 use borrow.Author.Needs.{needs}
 use Rattle.listing.proofs.put_line.Statement.{statement}

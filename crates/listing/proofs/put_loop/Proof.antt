@@ -3,7 +3,7 @@ use mathlib.Core.Path.{ap}
 use native.Mathlib.Omega.{arith}
 use mir.Facts.{toZ-ofZ}
 use Rattle.listing.specs.Text.{line, loopWord}
-use Rattle.listing.proofs.Runs.{and-then, named}
+use Rattle.text.proofs.Runs.{and-then, named}
 use borrow.Author.Needs.{needs}
 use Rattle.listing.proofs.put_loop.Statement.{statement}
 use Rattle.listing.proofs.put_loop.Tie as tie

@@ -4,24 +4,42 @@ use Prim.Native.Nat.{_≤_}
 use native.Mathlib.Omega.{arith}
 use denote.Ref.{now}
 use lib.ListN.{length, length-set}
-use Rattle.listing.proofs.Decimal.{decimal-one-long, decimal-twenty-long}
-use Rattle.listing.proofs.Runs.{long, and-then, and-byte}
+use Rattle.text.specs.Decimal.{decimal}
+use Rattle.text.proofs.Decimal.{decimal-few}
+use Rattle.text.proofs.Runs.{long, and-then, and-byte}
 use Rattle.listing.proofs.Lines.{counted-written}
 use borrow.Author.Needs.{needs}
 use Rattle.listing.proofs.put_refused.Statement.{statement}
 use Rattle.listing.proofs.put_refused.Tie as tie
 
+-- the places of the code: behind the word, behind the number, behind the place, each with the one before it and the start
+abbrev from-word : tie.After-put-text → tie.Start
+from-word c = c .before .before .before .before
+
+abbrev word-of : tie.After-put-digits → tie.After-put-text
+word-of c = c .before .before .before .before
+
+abbrev from-number : tie.After-put-digits → tie.Start
+from-number c = from-word (word-of c)
+
+abbrev number-of : tie.After-put-digits2 → tie.After-put-digits
+number-of c = c .before .before .before .before
+
+-- a number of 32 bits has at most 10 digits, a place of 64 at most 20
+ten : (s : tie.Start) → length (decimal (s .args .number)) ≤ 10
+ten s = decimal-few (s .args .number) 9 (omega (arith, s .fits .number .fits))
+
+twenty : (s : tie.Start) → length (decimal (s .args .place)) ≤ 20
+twenty s = decimal-few (s .args .place) 19 (omega (arith, s .fits .place .fits))
+
 -- behind the number
-behind : (c : tie.After-put-digits) →
-    (c .put-digits .result ≤ 9)
-    × (length (c .put-digits .last .0) ≡ length (now (c .before .before .before .before .before .before .before .before .args .text)))
+behind : (c : tie.After-put-digits) → (c .put-digits .result ≤ 18) × (length (c .put-digits .last .0) ≡ length (now (from-number c .args .text)))
 behind c =
-    let s = c .before .before .before .before .before .before .before .before in
-    let w = c .before .before .before .before .put-text .ensures in
+    let w = word-of c .put-text .ensures in
     let v = c .put-digits .ensures in
     let p = w .place in
     let q = v .place in
-    let h = decimal-one-long (s .args .number) (s .pre .1) in
+    let h = ten (from-number c) in
     (omega arith, long v ∙ long w)
 
 slice-aggregate-put-text : tie.Need-slice-aggregate-put-text
@@ -32,12 +50,13 @@ put-text-requires c κs = search needs
 
 put-digits-requires : tie.Need-put-digits-requires
 put-digits-requires c κs =
-    let s = c .before .before .before .before .before .before .before in
-    let w = c .before .before .before .put-text .ensures in
+    let word = c .before .before .before in
+    let s = from-word word in
+    let w = word .put-text .ensures in
     let p = w .place in
     let l = long w in
-    let h = decimal-one-long (s .args .number) (s .pre .1) in
-    omega (arith, s .pre .0)
+    let h = ten s in
+    omega (arith, s .pre)
 
 slice-write-text : tie.Need-slice-write-text
 slice-write-text c = let h = behind (c .before .before) in omega arith
@@ -47,44 +66,48 @@ add-put-digits c = let h = behind (c .before .before .before) in omega arith
 
 put-digits-requires-2 : tie.Need-put-digits-requires-2
 put-digits-requires-2 c κs =
-    let h = behind (c .before .before .before) in
-    let s = c .before .before .before .before .before .before .before .before .before .before .before in
-    let d = decimal-twenty-long (s .args .place) (s .fits .place .fits) in
-    simp length-set (omega (arith, s .pre .0))
+    let number = c .before .before .before in
+    let h = behind number in
+    let s = from-number number in
+    let d = twenty s in
+    simp length-set (omega (arith, s .pre))
 
 slice-write-text-2 : tie.Need-slice-write-text-2
 slice-write-text-2 c =
-    let h = behind (c .before .before .before .before .before .before) in
-    let s = c .before .before .before .before .before .before .before .before .before .before .before .before .before .before in
+    let number = number-of (c .before .before) in
+    let h = behind number in
+    let s = from-number number in
     let u = c .before .before .put-digits2 .ensures in
-    let d = decimal-twenty-long (s .args .place) (s .fits .place .fits) in
+    let d = twenty s in
     let l = (simp length-set at (long u)) in
-    omega (arith, u .place, s .pre .0)
+    omega (arith, u .place, s .pre)
 
 add-result : tie.Need-add-result
 add-result c =
-    let h = behind (c .before .before .before .before .before .before) in
-    let s = c .before .before .before .before .before .before .before .before .before .before .before .before .before .before in
+    let number = number-of (c .before .before) in
+    let h = behind number in
     let u = c .before .before .put-digits2 .ensures in
-    let d = decimal-twenty-long (s .args .place) (s .fits .place .fits) in
+    let d = twenty (from-number number) in
     omega (arith, u .place)
 
 same-length : tie.Need-same-length
 same-length c =
-    let w = c .before .before .before .before .before .before .before .before .before .before .put-text .ensures in
-    let v = c .before .before .before .before .before .before .put-digits .ensures in
+    let number = number-of (c .before .before) in
+    let w = word-of number .put-text .ensures in
+    let v = number .put-digits .ensures in
     let u = c .before .before .put-digits2 .ensures in
     let m = (simp length-set at (long u)) in
     simp length-set (m ∙ long v ∙ long w)
 
 returns : tie.Need-returns
 returns c =
-    let s = c .before .before .before .before .before .before .before .before .before .before .before .before .before .before in
-    let w = c .before .before .before .before .before .before .before .before .before .before .put-text .ensures in
-    let v = c .before .before .before .before .before .before .put-digits .ensures in
+    let number = number-of (c .before .before) in
+    let s = from-number number in
+    let w = word-of number .put-text .ensures in
+    let v = number .put-digits .ensures in
     let u = c .before .before .put-digits2 .ensures in
-    let h = behind (c .before .before .before .before .before .before) in
-    let d = decimal-twenty-long (s .args .place) (s .fits .place .fits) in
+    let h = behind number in
+    let d = twenty s in
     let q = u .place in
     (and-byte (and-then (counted-written (s .args .number) w v) u) 10, omega arith)
 

@@ -1,94 +1,121 @@
 -- `listing::write` meets its contract: each outcome has its listing.
-use mathlib.Core.Path.{ap, sym, subst}
+use mathlib.Core.Path.{refl, subst}
 use native.Mathlib.Omega.{arith}
 use denote.Ref.{now}
 use Rattle.listing.specs.Listable.{Counted}
-use Rattle.listing.specs.Text.{textOf}
-use Rattle.listing.proofs.Runs.{named}
+use Rattle.listing.specs.Text.{refused, answeredText}
+use Rattle.text.proofs.Runs.{named}
+use Rattle.listing.proofs.Lines.{looped-text, told-text}
 use borrow.Author.Needs.{needs}
 use Rattle.listing.proofs.write.Statement.{statement}
 use Rattle.listing.proofs.write.Tie as tie
+
+-- from where an arm is told its case back to the start
+abbrev start : tie.After-enum-told → tie.Start
+start c = c .before .before .before .before .before
+
+abbrev start-2 : tie.After-enum-told2 → tie.Start
+start-2 c = c .before .before .before .before .before
+
+abbrev start-3 : tie.After-enum-told3 → tie.Start
+start-3 c = c .before .before .before .before .before
+
+abbrev start-4 : tie.After-enum-told4 → tie.Start
+start-4 c = c .before .before .before .before .before
+
+abbrev start-5 : tie.After-enum-told5 → tie.Start
+start-5 c = c .before .before .before .before .before
 
 enum-told : tie.Need-enum-told
 enum-told c = search needs
 
 answered-requires : tie.Need-answered-requires
 answered-requires c κs =
-    let s = c .before .before .before .before .before .before in
+    let s = start (c .before) in
     (subst (λ y. Counted (now (s .args .file)) y (now (s .args .answer))) (c .before .enum-told .given .1) (s .pre .counted), s .pre .room)
-
-enum-known-o : tie.Need-enum-known-o
-enum-known-o c = search needs
-
-faulty-requires : tie.Need-faulty-requires
-faulty-requires c κs = search needs
 
 enum-told-2 : tie.Need-enum-told-2
 enum-told-2 c = search needs
 
-put-refused-requires : tie.Need-put-refused-requires
-put-refused-requires c κs = search needs
+put-refusal-requires : tie.Need-put-refusal-requires
+put-refusal-requires c κs = search needs
 
 enum-told-3 : tie.Need-enum-told-3
 enum-told-3 c = search needs
 
-looped-requires : tie.Need-looped-requires
-looped-requires c κs =
-    let s = c .before .before .before .before .before .before in
-    (subst (λ y. Counted (now (s .args .file)) y (now (s .args .answer))) (c .before .enum-told3 .given .1) (s .pre .counted), (s .pre .room, omega arith))
+put-refusal-requires-2 : tie.Need-put-refusal-requires-2
+put-refusal-requires-2 c κs = search needs
 
 enum-told-4 : tie.Need-enum-told-4
 enum-told-4 c = search needs
 
+looped-requires : tie.Need-looped-requires
+looped-requires c κs =
+    let s = start-4 (c .before) in
+    (subst (λ y. Counted (now (s .args .file)) y (now (s .args .answer))) (c .before .enum-told4 .given .1) (s .pre .counted), s .pre .room)
+
+enum-told-5 : tie.Need-enum-told-5
+enum-told-5 c = search needs
+
 looped-requires-2 : tie.Need-looped-requires-2
 looped-requires-2 c κs =
-    let s = c .before .before .before .before .before .before in
-    (subst (λ y. Counted (now (s .args .file)) y (now (s .args .answer))) (c .before .enum-told4 .given .1) (s .pre .counted), (s .pre .room, omega arith))
+    let s = start-5 (c .before) in
+    (subst (λ y. Counted (now (s .args .file)) y (now (s .args .answer))) (c .before .enum-told5 .given .1) (s .pre .counted), s .pre .room)
 
 same-length : tie.Need-same-length
 same-length c = search needs
 
 returns : tie.Need-returns
 returns c =
-    let s = c .before .before .before .before .before .before .before .before .before in
-    let w = c .before .before .answered .ensures in
-    (named (w .0) (ap (λ y. textOf (now (s .args .file)) y (now (s .args .answer))) (sym (c .before .before .before .before .enum-told .given .1))), omega (arith, w .1))
+    let call = c .before .before in
+    let told = call .before .before in
+    let s = start told in
+    let w = call .answered .ensures in
+    (named (w .0) (told-text (now (s .args .file)) (now (s .args .answer)) (λ y. answeredText (now (s .args .answer))) (told .enum-told .given .1) refl), omega (arith, w .1))
 
 same-length-2 : tie.Need-same-length-2
 same-length-2 c = search needs
 
 returns-2 : tie.Need-returns-2
 returns-2 c =
-    let s = c .before .before .before .before .before .before .before .before .before .before in
-    let w = c .before .before .faulty .ensures in
-    (named (w .0) (ap (λ y. textOf (now (s .args .file)) y (now (s .args .answer))) (sym (c .before .before .before .before .before .o .given .1))), omega (arith, w .1))
+    let call = c .before .before in
+    let told = call .before .before in
+    let s = start-2 told in
+    let w = call .put-refusal .ensures in
+    (named (w .0) (told-text (now (s .args .file)) (now (s .args .answer)) refused (told .enum-told2 .given .1) refl), omega (arith, w .1))
 
 same-length-3 : tie.Need-same-length-3
 same-length-3 c = search needs
 
 returns-3 : tie.Need-returns-3
 returns-3 c =
-    let s = c .before .before .before .before .before .before .before .before .before in
-    let w = c .before .before .put-refused .ensures in
-    (named (w .0) (ap (λ y. textOf (now (s .args .file)) y (now (s .args .answer))) (sym (c .before .before .before .before .enum-told2 .given .1))), omega (arith, w .1))
+    let call = c .before .before in
+    let told = call .before .before in
+    let s = start-3 told in
+    let w = call .put-refusal2 .ensures in
+    (named (w .0) (told-text (now (s .args .file)) (now (s .args .answer)) refused (told .enum-told3 .given .1) refl), omega (arith, w .1))
 
 same-length-4 : tie.Need-same-length-4
 same-length-4 c = search needs
 
 returns-4 : tie.Need-returns-4
 returns-4 c =
-    let s = c .before .before .before .before .before .before .before .before .before in
-    let w = c .before .before .looped .ensures in
-    (named (w .0) (ap (λ y. textOf (now (s .args .file)) y (now (s .args .answer))) (sym (c .before .before .before .before .enum-told3 .given .1))), omega (arith, w .1))
+    let call = c .before .before in
+    let told = call .before .before in
+    let s = start-4 told in
+    let w = call .looped .ensures in
+    (named (w .0) (told-text (now (s .args .file)) (now (s .args .answer)) (looped-text (now (s .args .file)) (now (s .args .answer))) (told .enum-told4 .given .1) refl), omega (arith, w .1))
 
 same-length-5 : tie.Need-same-length-5
 same-length-5 c = search needs
 
 returns-5 : tie.Need-returns-5
 returns-5 c =
-    let s = c .before .before .before .before .before .before .before .before .before in
-    let w = c .before .before .looped2 .ensures in
-    (named (w .0) (ap (λ y. textOf (now (s .args .file)) y (now (s .args .answer))) (sym (c .before .before .before .before .enum-told4 .given .1))), omega (arith, w .1))
+    let call = c .before .before in
+    let told = call .before .before in
+    let s = start-5 told in
+    let w = call .looped2 .ensures in
+    (named (w .0) (told-text (now (s .args .file)) (now (s .args .answer)) (looped-text (now (s .args .file)) (now (s .args .answer))) (told .enum-told5 .given .1) refl), omega (arith, w .1))
 
 pub write-spec : {M : Type 1} → statement M
 write-spec =
@@ -96,13 +123,13 @@ write-spec =
     (tie.spec
     enum-told
     answered-requires
-    enum-known-o
-    faulty-requires
     enum-told-2
-    put-refused-requires
+    put-refusal-requires
     enum-told-3
-    looped-requires
+    put-refusal-requires-2
     enum-told-4
+    looped-requires
+    enum-told-5
     looped-requires-2
     same-length
     returns

@@ -7,6 +7,10 @@ use borrow.Author.Needs.{needs}
 use Rattle.skew_c.proofs.skew_question.Statement.{statement}
 use Rattle.skew_c.proofs.skew_question.Tie as tie
 
+-- what the rule question returned, behind the yes
+abbrev asked-at : tie.After-yes-of → tie.After-question
+asked-at c = c .before .before .before
+
 question-requires : tie.Need-question-requires
 question-requires c κs = search needs
 
@@ -22,9 +26,9 @@ yes-of-requires c κs = search needs
 pack-requires : tie.Need-pack-requires
 pack-requires c κs =
     let p = c .before .reply-place .ensures in
-    let h = reply-below (c .before .before .before .question .ensures) in
+    let h = reply-below _ (asked-at c .question .ensures) in
     let y = c .yes-of .ensures in
-    let t = yes-to (c .before .before .before .question .result) in
+    let t = yes-to (asked-at c .question .result) in
     (omega arith, omega arith)
 
 returns : tie.Need-returns
@@ -32,10 +36,11 @@ returns c =
     let n = c .before .before .before .reply-number .ensures in
     let p = c .before .before .reply-place .ensures in
     let y = c .before .yes-of .ensures in
-    let f = c .before .before .before .before .before .before .fits in
-    let a = rw (asked-read (f .period) (f .kind) (f .number) (f .tail) (f .head)) at (c .before .before .before .before .question .ensures) in
+    let question = asked-at (c .before) in
+    let f = question .before .before .fits in
+    let a = rw (asked-read (f .period) (f .kind) (f .number) (f .tail) (f .head)) at (question .question .ensures) in
     let e = c .pack .ensures in
-    replied _ a (omega arith)
+    replied _ _ a (omega arith) (omega arith)
 
 pub skew-question-spec : {M : Type 1} → statement M
 skew-question-spec =

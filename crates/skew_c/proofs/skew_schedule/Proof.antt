@@ -6,6 +6,10 @@ use borrow.Author.Needs.{needs}
 use Rattle.skew_c.proofs.skew_schedule.Statement.{statement}
 use Rattle.skew_c.proofs.skew_schedule.Tie as tie
 
+-- what the scheduler returned, behind the outcome's place
+abbrev scheduled-at : tie.After-outcome-place → tie.After-schedule
+scheduled-at c = c .before .before .before .before
+
 schedule-requires : tie.Need-schedule-requires
 schedule-requires c κs = search needs
 
@@ -18,7 +22,7 @@ outcome-place-requires c κs = search needs
 pack-requires : tie.Need-pack-requires
 pack-requires c κs =
     let e = c .outcome-place .ensures in
-    let h = outcome-below (c .before .before .before .before .schedule .ensures) in
+    let h = outcome-below _ (scheduled-at c .schedule .ensures) in
     (omega arith, omega arith)
 
 same-length : tie.Need-same-length
@@ -29,7 +33,7 @@ returns c =
     let n = c .before .before .outcome-number .ensures in
     let p = c .before .outcome-place .ensures in
     let e = c .pack .ensures in
-    scheduled _ (c .before .before .before .before .before .schedule .ensures) (omega arith)
+    scheduled _ _ (scheduled-at (c .before) .schedule .ensures) (omega arith) (omega arith)
 
 pub skew-schedule-spec : {M : Type 1} → statement M
 skew-schedule-spec =

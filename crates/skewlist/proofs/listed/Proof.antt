@@ -4,11 +4,18 @@ use Rattle.skewlist.proofs.listed.Statement.{statement}
 use Rattle.skewlist.proofs.listed.Tie as tie
 use Rattle.skewlist.proofs.Left.{counted, listed-as}
 
+-- what the scheduler returned, behind the listing
+abbrev scheduled-at : tie.After-list → tie.After-schedule
+scheduled-at c = c .before .before .before .before .before
+
 schedule-requires : tie.Need-schedule-requires
 schedule-requires c κs = search needs
 
 list-requires : tie.Need-list-requires
-list-requires c κs = record { counted = counted (c .before .before .before .before .schedule .result) (c .before .before .before .before .schedule .ensures); room = search needs }
+list-requires c κs =
+    let lent = c .before .before in
+    let scheduled = lent .before .before .schedule in
+    record { counted = counted _ (scheduled .result) (scheduled .ensures); room = search needs }
 
 same-length : tie.Need-same-length
 same-length c = search needs
@@ -17,7 +24,10 @@ same-length-2 : tie.Need-same-length-2
 same-length-2 c = search needs
 
 returns : tie.Need-returns
-returns c = listed-as (c .before .before .before .before .before .before .before .schedule .result) (c .before .before .before .before .before .before .before .schedule .ensures) (c .before .before .list .ensures)
+returns c =
+    let listed = c .before .before in
+    let scheduled = scheduled-at listed .schedule in
+    listed-as _ (scheduled .result) (scheduled .ensures) (listed .list .ensures)
 
 pub listed-spec : {M : Type 1} → statement M
 listed-spec =

@@ -10,6 +10,17 @@ use borrow.Author.Needs.{needs}
 use Rattle.answer.proofs.record.put_entry.Statement.{statement}
 use Rattle.answer.proofs.record.put_entry.Tie as tie
 
+-- ---- places, from the end backwards: after each number, and the function's entry
+
+abbrev second : (c : tie.After-slice-known3) → tie.After-put-number2
+second c = c .before .before
+
+abbrev first : (c : tie.After-put-number2) → tie.After-put-number
+first c = c .before .before .before .before
+
+abbrev start : (c : tie.After-put-number) → tie.Start
+start c = c .before .before .before
+
 slice-write-out : tie.Need-slice-write-out
 slice-write-out c = search needs
 
@@ -29,23 +40,22 @@ add-put-number-2 : tie.Need-add-put-number-2
 add-put-number-2 c = search needs
 
 -- the first number leaves the output as long as it was
-long : (c : tie.After-put-number) → length (c .put-number .last .0) ≡ length (now (c .before .before .before .args .out))
-long c =
-    let a = c .before .before .before .args in
-    c .put-number .kept .0 ∙ marks-long (now (a .out)) (a .at) (a .at + 1) _ _
+long : (c : tie.After-put-number) → length (c .put-number .last .0) ≡ length (now (start c .args .out))
+long c = let a = start c .args in c .put-number .kept .0 ∙ marks-long (now (a .out)) (a .at) (a .at + 1) _ _
 
 put-number-requires-2 : tie.Need-put-number-requires-2
-put-number-requires-2 c κs = let e = long (c .before .before .before) in let k = c .before .before .before .before .before .before .pre in omega arith
+put-number-requires-2 c κs = let w = c .before .before .before in let e = long w in let k = start w .pre in omega arith
 
 same-length : tie.Need-same-length
-same-length c = c .before .before .put-number2 .kept .0 ∙ long (c .before .before .before .before .before .before)
+same-length c = second c .put-number2 .kept .0 ∙ long (first (second c))
 
 returns : tie.Need-returns
 returns c =
-    let k = c .before .before .before .before .before .before .before .before .before in
+    let one = first (second c) in
+    let k = start one in
     entry-written (now (k .args .out)) _ _ (k .args .at) _ _ _ _
-    (c .before .before .before .before .before .before .put-number .ensures) (toZ-ofZ (k .fits .kind))
-    (c .before .before .put-number2 .ensures) (toZ-ofZ (k .fits .number))
+    (one .put-number .ensures) (toZ-ofZ (k .fits .kind))
+    (second c .put-number2 .ensures) (toZ-ofZ (k .fits .number))
 
 pub put-entry-spec : {M : Type 1} → statement M
 put-entry-spec =

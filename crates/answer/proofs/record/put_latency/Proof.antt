@@ -10,6 +10,14 @@ use borrow.Author.Needs.{needs}
 use Rattle.answer.proofs.record.put_latency.Statement.{statement}
 use Rattle.answer.proofs.record.put_latency.Tie as tie
 
+-- ---- places, from the end backwards: after the number, and the function's entry
+
+abbrev written : (c : tie.After-slice-known2) → tie.After-put-number
+written c = c .before .before
+
+abbrev start : (c : tie.After-put-number) → tie.Start
+start c = c .before .before .before
+
 slice-write-out : tie.Need-slice-write-out
 slice-write-out c = search needs
 
@@ -26,14 +34,12 @@ put-number-requires : tie.Need-put-number-requires
 put-number-requires c κs = simp length-set (omega arith)
 
 same-length : tie.Need-same-length
-same-length c =
-    let a = c .before .before .before .before .before .args in
-    c .before .before .put-number .kept .0 ∙ marks-long (now (a .out)) (a .at) (a .at + 1) _ _
+same-length c = let a = start (written c) .args in written c .put-number .kept .0 ∙ marks-long (now (a .out)) (a .at) (a .at + 1) _ _
 
 returns : tie.Need-returns
 returns c =
-    let k = c .before .before .before .before .before in
-    latency-written (now (k .args .out)) _ (k .args .at) _ _ (c .before .before .put-number .ensures) (toZ-ofZ (k .fits .x))
+    let k = start (written c) in
+    latency-written (now (k .args .out)) _ (k .args .at) _ _ (written c .put-number .ensures) (toZ-ofZ (k .fits .x))
 
 pub put-latency-spec : {M : Type 1} → statement M
 put-latency-spec =

@@ -9,6 +9,20 @@ use borrow.Author.Needs.{needs}
 use Rattle.answer.proofs.record.put_skew.Statement.{statement}
 use Rattle.answer.proofs.record.put_skew.Tie as tie
 
+-- ---- places, from the end backwards: after each number, and the function's entry
+
+abbrev third : (c : tie.After-slice-known4) → tie.After-put-number3
+third c = c .before .before
+
+abbrev second : (c : tie.After-put-number3) → tie.After-put-number2
+second c = c .before .before .before .before
+
+abbrev first : (c : tie.After-put-number2) → tie.After-put-number
+first c = c .before .before .before .before
+
+abbrev start : (c : tie.After-put-number) → tie.Start
+start c = c .before .before .before
+
 slice-write-out : tie.Need-slice-write-out
 slice-write-out c = search needs
 
@@ -19,34 +33,30 @@ put-number-requires : tie.Need-put-number-requires
 put-number-requires c κs = simp length-set (omega arith)
 
 -- each number leaves the output as long as it was
-long : (c : tie.After-put-number) → length (c .put-number .last .0) ≡ length (now (c .before .before .before .args .out))
-long c = c .put-number .kept .0 ∙ marks-long (now (c .before .before .before .args .out)) 0 1 _ _
+long : (c : tie.After-put-number) → length (c .put-number .last .0) ≡ length (now (start c .args .out))
+long c = c .put-number .kept .0 ∙ marks-long (now (start c .args .out)) 0 1 _ _
 
-long-2 : (c : tie.After-put-number2)
-    → length (c .put-number2 .last .0) ≡ length (now (c .before .before .before .before .before .before .before .args .out))
-long-2 c = c .put-number2 .kept .0 ∙ long (c .before .before .before .before)
+long-2 : (c : tie.After-put-number2) → length (c .put-number2 .last .0) ≡ length (now (start (first c) .args .out))
+long-2 c = c .put-number2 .kept .0 ∙ long (first c)
 
 put-number-requires-2 : tie.Need-put-number-requires-2
-put-number-requires-2 c κs = let e = long (c .before .before .before) in let k = c .before .before .before .before .before .before .pre in omega arith
+put-number-requires-2 c κs = let w = c .before .before .before in let e = long w in let k = start w .pre in omega arith
 
 put-number-requires-3 : tie.Need-put-number-requires-3
-put-number-requires-3 c κs =
-    let e = long-2 (c .before .before .before) in
-    let k = c .before .before .before .before .before .before .before .before .before .before .pre in
-    omega arith
+put-number-requires-3 c κs = let w = c .before .before .before in let e = long-2 w in let k = start (first w) .pre in omega arith
 
 same-length : tie.Need-same-length
-same-length c = c .before .before .put-number3 .kept .0 ∙ long-2 (c .before .before .before .before .before .before)
+same-length c = third c .put-number3 .kept .0 ∙ long-2 (second (third c))
 
 returns : tie.Need-returns
 returns c =
-    let two = c .before .before .before .before .before .before in
-    let one = two .before .before .before .before in
-    let k = one .before .before .before in
+    let two = second (third c) in
+    let one = first two in
+    let k = start one in
     skew-written (now (k .args .out)) _ _ _ _ _ _ _ _ _
     (one .put-number .ensures) (toZ-ofZ (k .fits .period))
     (two .put-number2 .ensures) (toZ-ofZ (k .fits .latencies))
-    (c .before .before .put-number3 .ensures) (toZ-ofZ (k .fits .entries))
+    (third c .put-number3 .ensures) (toZ-ofZ (k .fits .entries))
 
 pub put-skew-spec : {M : Type 1} → statement M
 put-skew-spec =

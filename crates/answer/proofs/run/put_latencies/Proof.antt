@@ -2,12 +2,11 @@
 use Prim.Native.Nat.{_-_}
 use native.Mathlib.Omega.{arith}
 use denote.Ref.{now}
-use lib.IntN.{pos}
-use lib.ListN.{getD}
 use mir.Syntax.{w32}
 use mir.Val.{SFits}
 use mir.Facts.{toZ-ofZ}
 use borrow.Author.Needs.{needs}
+use Rattle.loops.specs.Model.{at}
 use Rattle.answer.proofs.Latencies.{Timed, timed-none, timed-long, timed-more, timed-all}
 use Rattle.answer.proofs.run.put_latencies.Statement.{statement}
 use Rattle.answer.proofs.run.put_latencies.Tie as tie
@@ -17,6 +16,14 @@ Inv-loop out₀ row n i₀ out i = Timed row n out₀ out i
 
 abbrev μ-loop : tie.MeasureT-loop
 μ-loop out₀ row n i₀ out i = n - i
+
+-- ---- places: the function's entry, and the turn that a written latency belongs to
+
+abbrev start : (c : tie.At-loop Inv-loop μ-loop) → tie.Start Inv-loop μ-loop
+start c = c .before .before
+
+abbrev turn-of : (c : tie.After-put-latency Inv-loop μ-loop) → tie.In-loop Inv-loop μ-loop
+turn-of c = c .before .before .before
 
 loop-holds : tie.Need-loop-holds Inv-loop μ-loop
 loop-holds c = timed-none _ _ _
@@ -44,9 +51,8 @@ loop-less c = omega arith
 
 loop-again : tie.Need-loop-again Inv-loop μ-loop
 loop-again c =
-    let turn = c .before .before .before .before .before in
-    let a = turn .before .before .before .args in
-    let f : SFits w32 (getD (now (a .row)) (turn .before .loop .i) (pos 0)) = search needs in
+    let turn = turn-of (c .before .before) in
+    let f : SFits w32 (at (now (start (turn .before) .args .row)) (turn .before .loop .i)) = search needs in
     timed-more _ _ _ _ _ _ _ (turn .before .loop .inv) (turn .loop-test .taken) (c .before .before .put-latency .ensures) (toZ-ofZ f)
 
 same-length : tie.Need-same-length Inv-loop μ-loop

@@ -27,8 +27,8 @@ add-at c = omega arith
 loop-holds : tie.Need-loop-holds Inv-loop μ-loop
 loop-holds c = (omega arith, λ k l. absurd (omega arith))
 
-record-requires : tie.Need-record-requires Inv-loop μ-loop
-record-requires c κs = let e = c .before .loop .inv .0 in omega arith
+read-requires : tie.Need-read-requires Inv-loop μ-loop
+read-requires c κs = let e = c .before .loop .inv .0 in omega arith
 
 path-ok-requires : tie.Need-path-ok-requires Inv-loop μ-loop
 path-ok-requires c κs = c .before .before .before .before .pre .1
@@ -37,7 +37,7 @@ path-ok-requires c κs = c .before .before .before .before .pre .1
 tested : (c : tie.After-path-ok Inv-loop μ-loop) → c .path-ok .result ≡ pathOk (now (c .before .before .before .before .before .args .file)) (c .before .before .before .loop .p)
 tested c =
     let k = c .before .before .before .before .before .pre .0 in
-    c .path-ok .ensures _ _ k (path-there _ _ _ _ k (c .before .before .before .loop .inv .0) (c .before .«record» .ensures))
+    c .path-ok .ensures _ _ k (path-there _ _ _ _ k (c .before .before .before .loop .inv .0) (c .before .read .ensures))
 
 returns : tie.Need-returns Inv-loop μ-loop
 returns c =
@@ -54,7 +54,7 @@ loop-again : tie.Need-loop-again Inv-loop μ-loop
 loop-again c =
     let inv = c .before .before .before .before .loop .inv in
     let e = inv .0 in
-    let next = c .before .before .«record» .ensures .next in
+    let next = c .before .before .read .ensures .next in
     (omega arith, below-more _ _ (inv .1) (sym (tested (c .before)) ∙ not-false _ (c .if1 .left)))
 
 returns-2 : tie.Need-returns-2 Inv-loop μ-loop
@@ -69,7 +69,7 @@ lowest-path-spec =
     mul-at
     add-at
     loop-holds
-    record-requires
+    read-requires
     path-ok-requires
     returns
     add-p

@@ -22,15 +22,15 @@ abbrev μ-loop : tie.MeasureT-loop
 loop-holds : tie.Need-loop-holds Inv-loop μ-loop
 loop-holds c = (refl, λ k l. absurd (omega arith))
 
-record-requires : tie.Need-record-requires Inv-loop μ-loop
-record-requires c κs = let e = c .before .loop .inv .0 in omega arith
+read-requires : tie.Need-read-requires Inv-loop μ-loop
+read-requires c κs = let e = c .before .loop .inv .0 in omega arith
 
 register-ok-requires : tie.Need-register-ok-requires Inv-loop μ-loop
 register-ok-requires c κs = search needs
 
 -- what the test of a record says is said of register i, whose place it was read at
 tested : (c : tie.After-register-ok Inv-loop μ-loop) → c .register-ok .result ≡ registerOk (now (c .before .before .before .before .before .args .file)) (c .before .before .before .loop .i)
-tested c = c .register-ok .ensures _ (record-there _ _ (c .before .before .before .loop .inv .0) (c .before .«record» .ensures))
+tested c = c .register-ok .ensures _ (record-there _ _ (c .before .before .before .loop .inv .0) (c .before .read .ensures))
 
 returns : tie.Need-returns Inv-loop μ-loop
 returns c =
@@ -47,7 +47,7 @@ loop-again : tie.Need-loop-again Inv-loop μ-loop
 loop-again c =
     let inv = c .before .before .before .before .loop .inv in
     let e = inv .0 in
-    let next = c .before .before .«record» .ensures .next in
+    let next = c .before .before .read .ensures .next in
     (omega arith, below-more _ _ (inv .1) (sym (tested (c .before)) ∙ not-false _ (c .if1 .left)))
 
 returns-2 : tie.Need-returns-2 Inv-loop μ-loop
@@ -60,7 +60,7 @@ lowest-register-spec =
     Inv-loop
     μ-loop
     loop-holds
-    record-requires
+    read-requires
     register-ok-requires
     returns
     add-i

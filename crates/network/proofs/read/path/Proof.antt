@@ -16,17 +16,17 @@ use Rattle.network.proofs.read.path.Tie as tie
 inside : (c : tie.Start) → 22 + 18 * (c .args .n + c .args .p) + 18 ≤ length (now (c .args .file))
 inside c = path-inside _ (c .pre .0) _ _ (c .pre .1) (c .pre .2)
 
-add-record : tie.Need-add-record
-add-record c = let l = inside (c .before) in omega arith
+add-read : tie.Need-add-read
+add-read c = let l = inside (c .before) in omega arith
 
-mul-record : tie.Need-mul-record
-mul-record c = let l = inside (c .before) in omega arith
+mul-read : tie.Need-mul-read
+mul-read c = let l = inside (c .before) in omega arith
 
-add-record-2 : tie.Need-add-record-2
-add-record-2 c = let l = inside (c .before) in omega arith
+add-read-2 : tie.Need-add-read-2
+add-read-2 c = let l = inside (c .before) in omega arith
 
-record-requires : tie.Need-record-requires
-record-requires c κs = let l = inside (c .before) in omega arith
+read-requires : tie.Need-read-requires
+read-requires c κs = let l = inside (c .before) in omega arith
 
 natural-requires : tie.Need-natural-requires
 natural-requires c κs = search needs
@@ -41,7 +41,7 @@ returns : tie.Need-returns
 unfolding networkOf
 returns c =
     let e = c .before .before .before .before .before .before .before .before .before .pre .1 in
-    let r = c .before .before .before .before .before .before .before .«record» in
+    let r = c .before .before .before .before .before .before .before .read in
     let a : SFits w32 (r .result .first) = search needs in
     let b : SFits w32 (r .result .second) = search needs in
     let f : SFits w32 (r .result .third) = search needs in
@@ -60,10 +60,10 @@ pub path-spec : {M : Type 1} → statement M
 path-spec =
     tie.close
     (tie.spec
-    add-record
-    mul-record
-    add-record-2
-    record-requires
+    add-read
+    mul-read
+    add-read-2
+    read-requires
     natural-requires
     natural-requires-2
     number-requires

@@ -12,18 +12,18 @@ use Rattle.network.proofs.read.register.Tie as tie
 inside : (c : tie.Start) → 22 + 18 * c .args .i + 18 ≤ length (now (c .args .file))
 inside c = register-inside _ (c .pre .0) _ (c .pre .1)
 
-mul-record : tie.Need-mul-record
-mul-record c = let l = inside (c .before) in omega arith
+mul-read : tie.Need-mul-read
+mul-read c = let l = inside (c .before) in omega arith
 
-add-record : tie.Need-add-record
-add-record c = let l = inside (c .before) in omega arith
+add-read : tie.Need-add-read
+add-read c = let l = inside (c .before) in omega arith
 
-record-requires : tie.Need-record-requires
-record-requires c κs = let l = inside (c .before) in omega arith
+read-requires : tie.Need-read-requires
+read-requires c κs = let l = inside (c .before) in omega arith
 
 returns : tie.Need-returns
 unfolding networkOf
 returns c = search needs
 
 pub register-spec : {M : Type 1} → statement M
-register-spec = tie.close (tie.spec mul-record add-record record-requires returns)
+register-spec = tie.close (tie.spec mul-read add-read read-requires returns)

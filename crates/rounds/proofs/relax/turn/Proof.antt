@@ -1,12 +1,34 @@
 -- `rounds::relax::turn` meets its contract: the round is the model's, and each way out is one of the laws of a turn.
-use borrow.Author.Tests.{not-true, not-false}
-use Rattle.rounds.proofs.Turns.{ready-row, after-rested, after-fair, after-preds-long, after-row-long, after-settled, after-circled}
 use borrow.Author.Needs.{needs}
+use borrow.Author.Tests.{not-true, not-false}
+use Rattle.rounds.proofs.Turns.{ready-row, after-rested, after-fair, after-preds-long, after-row-long, after-settled, after-unrooted, after-circled}
 use Rattle.rounds.proofs.relax.turn.Statement.{statement}
 use Rattle.rounds.proofs.relax.turn.Tie as tie
 
+-- the places that are spoken of, each from the one after it
+abbrev entry : (c : tie.After-turn-round-arg2) → tie.Start
+entry c = c .before .before .before .before .before .before
+
+abbrev round : (c : tie.After-slice-known3) → tie.After-turn-round
+round c = c .before .before .before
+
+abbrev settle : (c : tie.After-b2) → tie.After-settle
+settle c = c .before
+
+abbrev raised : (c : tie.After-settle-arg2) → tie.Else1
+raised c = c .before .before
+
+abbrev stray : (c : tie.After-show-arg2) → tie.Else2
+stray c = c .before .before
+
+abbrev show : (c : tie.After-slice-known4) → tie.After-show
+show c = c .before .before
+
 turn-round-requires : tie.Need-turn-round-requires
-turn-round-requires c κs = let k = c .before .before .before .before .before in (k .pre .0, (ready-row _ (k .pre .0) _ _ (k .pre .1 .1 .1), k .pre .1 .1 .0, k .pre .1 .1 .1 .tight .forest .preds-length))
+turn-round-requires c κs =
+    let s = entry c .pre .0 in
+    let r = s .resumes .ready in
+    (s .shape, ((ready-row _ (s .shape) _ _ r, s .spare, r .tight .forest .preds-length), (s .resumes .within, s .resumes .met)))
 
 same-length : tie.Need-same-length
 same-length c = search needs
@@ -16,21 +38,22 @@ same-length-2 c = search needs
 
 returns : tie.Need-returns
 returns c =
-    let k = c .before .before .before .before .before .before .before .before .before .before in
-    let t = c .before .before .before .before .turn-round in
-    after-rested _ (k .pre .0) _ _ (k .pre .1 .1 .1) _ _ _ (t .ensures) (not-true (t .result) (c .if1 .taken))
+    let t = round (c .before) in
+    let s = entry (t .before) .pre .0 in
+    after-rested _ (s .shape) _ _ (s .resumes .ready) _ _ _ (t .turn-round .ensures) _ (not-true (t .turn-round .result) (c .if1 .taken))
 
 settle-requires : tie.Need-settle-requires
 settle-requires c κs =
-    let k = c .before .before .before .before .before .before .before .before .before .before .before .before in
-    let t = c .before .before .before .before .before .before .turn-round in
-    let r = k .pre .1 .1 .1 in (
-      k .pre .0,
-      (
-        (after-preds-long _ (k .pre .0) _ _ r _ _ _ (t .ensures), after-row-long _ (k .pre .0) _ _ r _ _ _ (t .ensures)),
-        after-fair _ (k .pre .0) _ _ r _ _ _ (t .ensures),
-      ),
-    )
+    let t = round (raised c .before) in
+    let s = entry (t .before) .pre .0 in
+    let r = s .resumes .ready in
+    let is = t .turn-round .ensures in
+    record {
+      shape = s .shape;
+      preds-long = after-preds-long _ (s .shape) _ _ r _ _ _ is;
+      row-long = after-row-long _ (s .shape) _ _ r _ _ _ is;
+      fair = after-fair _ (s .shape) _ _ r _ _ _ is;
+    }
 
 same-length-3 : tie.Need-same-length-3
 same-length-3 c = search needs
@@ -40,10 +63,22 @@ same-length-4 c = search needs
 
 returns-2 : tie.Need-returns-2
 returns-2 c =
-    let k = c .before .before .before .before .before .before .before .before .before .before .before .before .before .before .before in
-    let t = c .before .before .before .before .before .before .before .before .before .turn-round in
-    let s = c .before .before .settle in
-    after-settled _ (k .pre .0) _ _ (k .pre .1 .1 .1) _ _ _ (t .ensures) _ _ (k .pre .1 .0) (not-false (t .result) (c .before .before .before .before .before .if1 .left)) (s .ensures) (c .if2 .taken)
+    let z = settle (c .before) in
+    let e = raised (z .before) in
+    let t = round (e .before) in
+    let s = entry (t .before) .pre .0 in
+    after-settled _ (s .shape) _ _ (s .resumes .ready) _ _ _ (t .turn-round .ensures) _ _ (z .settle .ensures) _ (s .bounded)
+    (not-false (t .turn-round .result) (e .if1 .left)) (c .if2 .taken)
+
+show-requires : tie.Need-show-requires
+show-requires c κs =
+    let z = settle (stray c .before) in
+    let t = round (raised (z .before) .before) in
+    let k = entry (t .before) .pre in
+    let r = k .0 .resumes .ready in
+    let is = t .turn-round .ensures in
+    let below = stray c .if2 .left in
+    (k .0 .shape, (after-preds-long _ (k .0 .shape) _ _ r _ _ _ is, k .1, below, after-unrooted _ (k .0 .shape) _ _ r _ _ _ is _ _ (z .settle .ensures) below))
 
 same-length-5 : tie.Need-same-length-5
 same-length-5 c = search needs
@@ -51,12 +86,16 @@ same-length-5 c = search needs
 same-length-6 : tie.Need-same-length-6
 same-length-6 c = search needs
 
+same-length-7 : tie.Need-same-length-7
+same-length-7 c = search needs
+
 returns-3 : tie.Need-returns-3
 returns-3 c =
-    let k = c .before .before .before .before .before .before .before .before .before .before .before .before .before .before .before in
-    let t = c .before .before .before .before .before .before .before .before .before .turn-round in
-    let s = c .before .before .settle in
-    after-circled _ (k .pre .0) _ _ (k .pre .1 .1 .1) _ _ _ (t .ensures) _ _ (s .ensures) (c .if2 .left)
+    let w = stray (show c .before) in
+    let z = settle (w .before) in
+    let t = round (raised (z .before) .before) in
+    let s = entry (t .before) .pre .0 in
+    after-circled _ (s .shape) _ _ (s .resumes .ready) _ _ _ (t .turn-round .ensures) _ _ (z .settle .ensures) _ _ _ (w .if2 .left) (show c .show .ensures)
 
 pub turn-spec : {M : Type 1} → statement M
 turn-spec =
@@ -70,6 +109,8 @@ turn-spec =
     same-length-3
     same-length-4
     returns-2
+    show-requires
     same-length-5
     same-length-6
+    same-length-7
     returns-3)

@@ -1,10 +1,15 @@
--- `skew::question::question` meets its contract: the file's own fault, or the reply to an accepted file.
+-- `skew::question::question` meets its contract: the file's own fault, or the reply to an accepted file. The fault is found by search, which
+-- names no place of the code: code that returns another refusal there is refused for what it returns.
 use borrow.Author.Needs.{needs}
 use Rattle.network.proofs.Verdicts.{judged-accepted}
 use Rattle.skew.proofs.Limits.{asked-read}
 use Rattle.skew.proofs.Replies.{faulty-reply}
 use Rattle.skew.proofs.question.question.Statement.{statement}
 use Rattle.skew.proofs.question.question.Tie as tie
+
+-- where the file is known to be accepted, back to the start
+abbrev from-told : tie.After-enum-told → tie.Start
+from-told c = c .before .before .before .before
 
 judge-requires : tie.Need-judge-requires
 judge-requires c κs = search needs
@@ -23,7 +28,8 @@ returns c = search (faulty-reply, needs)
 
 returns-2 : tie.Need-returns-2
 returns-2 c =
-    let f = c .before .before .before .before .before .fits in
+    let told = c .before in
+    let f = from-told told .fits in
     rw (asked-read (f .period) (f .kind) (f .number) (f .tail) (f .head)) at (c .reply .ensures)
 
 pub question-spec : {M : Type 1} → statement M

@@ -1,6 +1,7 @@
 -- `skew::question::reply` meets its contract: number 10 where a test failed, else yes or no by the slack's sign. The parts answer of the
 -- numbers as they are read back, which are the numbers themselves.
 use mathlib.Core.Path.{sym, _∙_}
+use mathlib.Core.List.{List}
 use borrow.Author.Needs.{needs}
 use borrow.Author.Tests.{not-true, not-false}
 use denote.Ref.{now}
@@ -8,8 +9,10 @@ use mir.Syntax.{w32}
 use mir.Val.{SFits}
 use mir.Facts.{toZ-ofZ}
 use Rattle.paper.specs.File.{networkOf}
+use Rattle.paper.specs.Refusals.{faults}
 use Rattle.paper.specs.declared.Reply.{Reply}
-use Rattle.paper.specs.Question.{Question, InRange, Answers}
+use Rattle.paper.specs.Table.{Row}
+use Rattle.paper.specs.Question.{Question, InRange, FileAnswers}
 use Rattle.skew.specs.Asked.{asked}
 use Rattle.skew.proofs.Limits.{read, asked-read}
 use Rattle.skew.proofs.Replies.{is-in-range, no-rule, no-numbers, question-reply, slack-yes, slack-no}
@@ -25,54 +28,65 @@ in-range-requires c κs = search needs
 exists-requires : tie.Need-exists-requires
 exists-requires c κs = search needs
 
+-- behind the two tests, back to the start
+abbrev from-tests : tie.After-exists → tie.Start
+from-tests c = c .before .before .before .before
+
 abbrev at : tie.Start → Question
 at s = asked (read (s .args .period)) (read (s .args .kind)) (read (s .args .number)) (read (s .args .tail)) (read (s .args .head))
 
+-- the rows that come before number 10
+abbrev first : tie.Start → List Row
+first s = faults (now (s .args .file))
+
 -- past both tests the question is in range
-in-range : (c : tie.Else2) → InRange (networkOf (now (c .before .before .before .before .before .before .args .file))) (at (c .before .before .before .before .before .before))
+in-range : (c : tie.Else2) → InRange (networkOf (now (from-tests (c .before .before) .args .file))) (at (from-tests (c .before .before)))
 in-range c =
-    let header = c .before .before .before .before .header .ensures in
-    is-in-range (c .before .before .exists .result) (header .registers) (header .paths) (c .before .before .exists .ensures)
-    (sym (c .before .before .before .in-range .ensures) ∙ not-false _ (c .before .if1 .left))
+    let tests = c .before .before in
+    let header = tests .before .before .header .ensures in
+    is-in-range (tests .exists .result) (header .registers) (header .paths) (tests .exists .ensures)
+    (sym (tests .before .in-range .ensures) ∙ not-false _ (c .before .if1 .left))
     (not-false _ (c .if2 .left))
 
 -- what is answered of the numbers as they are read is answered of the numbers
-answered : (s : tie.Start) {o : Reply} → Answers (now (s .args .file)) (at s) o → Answers (now (s .args .file)) (asked (s .args .period) (s .args .kind) (s .args .number) (s .args .tail) (s .args .head)) o
+answered : (s : tie.Start) {o : Reply} → FileAnswers (now (s .args .file)) (at s) o
+    → FileAnswers (now (s .args .file)) (asked (s .args .period) (s .args .kind) (s .args .number) (s .args .tail) (s .args .head)) o
 answered s a = rw (asked-read (s .fits .period) (s .fits .kind) (s .fits .number) (s .fits .tail) (s .fits .head)) at a
 
 returns : tie.Need-returns
 returns c =
-    let s = c .before .before .before .before .before in
-    answered s (question-reply _ (at s) (s .pre) (no-numbers (sym (c .before .before .in-range .ensures) ∙ not-true _ (c .if1 .taken))))
+    let s = from-tests (c .before) in
+    answered s (question-reply _ (first s) (at s) (s .pre) (no-numbers (sym (c .before .before .in-range .ensures) ∙ not-true _ (c .if1 .taken))))
 
 returns-2 : tie.Need-returns-2
 returns-2 c =
-    let s = c .before .before .before .before .before .before in
-    let header = c .before .before .before .before .header .ensures in
+    let tests = c .before .before in
+    let s = from-tests tests in
+    let header = tests .before .before .header .ensures in
     answered s
-    (question-reply _ (at s) (s .pre)
-    (no-rule (c .before .before .exists .result) (header .registers) (header .paths) (c .before .before .exists .ensures) (not-true _ (c .if2 .taken))))
+    (question-reply _ (first s) (at s) (s .pre)
+    (no-rule (tests .exists .result) (header .registers) (header .paths) (tests .exists .ensures) (not-true _ (c .if2 .taken))))
 
 slack-requires : tie.Need-slack-requires
 slack-requires c κs =
-    let s = c .before .before .before .before .before .before in
-    record { accepted = s .pre; registers = c .before .before .before .before .header .ensures .registers; in-range = in-range c }
+    let tests = c .before .before in
+    record { accepted = from-tests tests .pre; registers = tests .before .before .header .ensures .registers; in-range = in-range c }
 
 returns-3 : tie.Need-returns-3
 returns-3 c =
     let past = c .before .before .before in
-    let s = past .before .before .before .before .before .before .before in
+    let s = from-tests (past .before .before .before) in
     let z = past .slack in
     let f : SFits w32 (z .result .0) = search needs in
-    answered s (slack-yes _ (at s) (z .result .0) (s .pre) (in-range (past .before)) (z .ensures) (rw (toZ-ofZ f) at (c .if3 .taken)))
+    answered s (slack-yes _ (first s) (at s) (s .pre) (in-range (past .before)) (z .result .0) (z .ensures) (rw (toZ-ofZ f) at (c .if3 .taken)))
 
 returns-4 : tie.Need-returns-4
 returns-4 c =
     let past = c .before .before .before in
-    let s = past .before .before .before .before .before .before .before in
+    let s = from-tests (past .before .before .before) in
     let z = past .slack in
     let f : SFits w32 (z .result .0) = search needs in
-    answered s (slack-no _ (at s) (z .result .0) (s .pre) (in-range (past .before)) (z .ensures) (rw (toZ-ofZ f) at (c .if3 .left)))
+    answered s (slack-no _ (first s) (at s) (s .pre) (in-range (past .before)) (z .result .0) (z .ensures) (rw (toZ-ofZ f) at (c .if3 .left)))
 
 pub reply-spec : {M : Type 1} → statement M
 reply-spec =

@@ -1,26 +1,36 @@
 -- `skew::schedule::schedule` meets its contract: each way out is one of the laws of Results.
-use mathlib.Core.Path.{_≡_, sym, _∙_}
-use Prim.Native.Nat.{_≤_}
+use mathlib.Core.Path.{_≡_}
+use mathlib.Core.List.{List}
+use Prim.Native.Nat.{ℕ, _≤_}
 use native.Mathlib.Omega.{arith}
 use denote.Ref.{now}
-use Rattle.paper.specs.File.{registers}
-use Rattle.paper.specs.Refusals.{Accepted}
+use Rattle.paper.specs.File.{networkOf}
+use Rattle.paper.specs.Refusals.{Accepted, faults}
 use Rattle.paper.proofs.Legal.{accepted-legal}
 use Rattle.network.proofs.Verdicts.{judged-accepted}
-use Rattle.network.proofs.Ranges.{registers-is}
 use Rattle.skew.proofs.Results.{result-fault, result-room, result-solved}
 use borrow.Author.Needs.{needs}
 use Rattle.skew.proofs.schedule.schedule.Statement.{statement}
 use Rattle.skew.proofs.schedule.schedule.Tie as tie
 
-accepted : (c : tie.After-enum-told) → Accepted (now (c .before .before .before .before .before .args .file))
+-- the file that a call was lent, and the places of the code: where the file is known to be accepted, and where its header has been read
+abbrev file-of : tie.Start → List ℕ
+file-of s = now (s .args .file)
+
+abbrev from-told : tie.After-enum-told → tie.Start
+from-told c = c .before .before .before .before .before
+
+abbrev from-header : tie.After-header → tie.Start
+from-header c = from-told (c .before)
+
+accepted : (c : tie.After-enum-told) → Accepted (file-of (from-told c))
 accepted c = judged-accepted _ _ (c .before .before .judge .ensures) (c .enum-told .given .1)
 
-counted : (c : tie.After-header) → registers (now (c .before .before .before .before .before .before .args .file)) ≡ c .header .result .registers
-counted c = sym (registers-is (now (c .before .before .before .before .before .before .args .file))) ∙ sym (c .header .ensures .registers)
+counted : (c : tie.After-header) → c .header .result .registers ≡ networkOf (file-of (from-header c)) .registers
+counted c = c .header .ensures .registers
 
 few : (c : tie.After-header) → c .header .result .registers ≤ 256
-few c = let e = c .header .ensures .registers in let t = accepted-legal _ (accepted (c .before)) .registers-to in omega arith
+few c = let e = counted c in let t = accepted-legal _ (accepted (c .before)) .registers-to in omega arith
 
 judge-requires : tie.Need-judge-requires
 judge-requires c κs = search needs
@@ -44,12 +54,11 @@ returns : tie.Need-returns
 returns c =
     let h = counted (c .before) in
     let t = c .if1 .taken in
-    result-room _ _ (accepted (c .before .before)) (omega arith)
+    result-room _ (faults (file-of (from-header (c .before)))) (accepted (c .before .before)) _ (omega arith)
 
 solve-requires : tie.Need-solve-requires
 solve-requires c κs =
     let h = counted (c .before .before) in
-    let e = c .before .before .header .ensures .registers in
     let t = c .before .if1 .left in
     (accepted (c .before .before .before), omega arith)
 
@@ -61,9 +70,12 @@ same-length c = search needs
 
 returns-3 : tie.Need-returns-3
 returns-3 c =
-    let h = counted (c .before .before .before .before .before) in
-    let t = c .before .before .before .before .if1 .left in
-    result-solved _ _ (accepted (c .before .before .before .before .before .before)) (omega arith) _ _ (c .before .before .solve .ensures)
+    let solved = c .before .before in
+    let at = solved .before .before .before in
+    let h = counted at in
+    let t = solved .before .before .if1 .left in
+    let a = accepted (at .before) in
+    result-solved _ (faults (file-of (from-header at))) a _ (omega arith) (accepted-legal _ a .floor-from) _ _ (solved .solve .ensures)
 
 pub schedule-spec : {M : Type 1} → statement M
 schedule-spec =

@@ -1,0 +1,127 @@
+// Times two builds of the module's library beside each other, on the same networks, in one run.
+//
+// Each is a shared library of its own, so that both can export the same names; shared libraries begin at the start of a page, so that code
+// that is the same in both lies alike in memory too. The clock is read around a few calls for one network, so that other programs on the
+// machine seldom come between. The builds take turns at each network, and each comes as often as the other after itself, after the other
+// and first. A build's time for a network is that of its fastest turn, and a row of the table adds up its networks. Numbers,
+// places, periods and latencies are compared before anything is timed.
+#include <dlfcn.h>
+
+#include <cmath>
+#include <cstdio>
+#include <cstdlib>
+
+#include "stack.hpp"
+#include "turns.hpp"
+
+namespace {
+
+struct Build {
+    Schedule schedule;
+    size_t stack = 0; // the most that a call used
+};
+
+struct Times {
+    double base = 1e9, other = 1e9; // nanoseconds for one network
+    double ratio() const { return other / base; }
+};
+
+struct Sum {
+    Times total{0, 0};
+    double logs = 0, least = 1e9, most = 0;
+    int count = 0;
+    void add(const Times &times) {
+        total.base += times.base, total.other += times.other;
+        logs += std::log(times.ratio());
+        least = std::min(least, times.ratio()), most = std::max(most, times.ratio());
+        ++count;
+    }
+};
+
+size_t networks = 0, alike = 0;
+
+Build loaded(const char *path) {
+    void *library = dlopen(path, RTLD_NOW | RTLD_LOCAL);
+    void *found = library ? dlsym(library, "skew_schedule") : nullptr;
+    if (!found) {
+        std::printf("%s: %s\n", path, dlerror());
+        std::exit(1);
+    }
+    return {reinterpret_cast<Schedule>(found)};
+}
+
+void check(Build &base, Build &other, const Set &set) {
+    for (const File &file : set.files) {
+        std::vector<uint8_t> out(8192, 0xee), other_out(8192, 0xee);
+        const uint64_t result = base.schedule(file.data(), file.size(), out.data(), out.size());
+        const uint64_t other_result = other.schedule(file.data(), file.size(), other_out.data(), other_out.size());
+        if (!agree(result, out, other_result, other_out, size_t(set.n))) {
+            std::printf("%s %d: the builds differ (number %u and %u, period %d and %d)\n", set.shape.c_str(), set.n, uint32_t(result),
+                uint32_t(other_result), number_at(&out[2], 0), number_at(&other_out[2], 0));
+            std::exit(1);
+        }
+        ++networks, alike += out == other_out;
+        for (Build *build : {&base, &other}) build->stack = std::max(build->stack, stack_used(build->schedule, file));
+    }
+}
+
+// Calls for one network that take 20 microseconds or more.
+int calls_for(const Build &build, const File &file) { return std::max(1, int(0.00002 / turn(build.schedule, {file}, 1)) + 1); }
+
+// Four turns at each network, as ABBA and the next time as BAAB, until the seconds are over, at the least four times.
+Times measure(const Build &base, const Build &other, const Set &set, double seconds) {
+    std::vector<Times> each(set.files.size());
+    std::vector<std::vector<File>> alone;
+    std::vector<int> calls;
+    for (const File &file : set.files) alone.push_back({file}), calls.push_back(calls_for(base, file));
+    const double start = now();
+    for (int t = 0; t < 4 || t % 2 || now() - start < seconds; ++t)
+        for (size_t k = 0; k < alone.size(); ++k)
+            for (const bool outer : {true, false, false, true}) {
+                const bool is_base = outer == (t % 2 == 0);
+                double &best = is_base ? each[k].base : each[k].other;
+                best = std::min(best, 1e9 * turn((is_base ? base : other).schedule, alone[k], calls[k]));
+            }
+    Times sum{0, 0};
+    for (const Times &times : each) sum.base += times.base, sum.other += times.other;
+    return {sum.base / double(each.size()), sum.other / double(each.size())};
+}
+
+void print_sum(const std::string &what, const Sum &sum) {
+    std::printf("total %-9s %11.0f %11.0f %7.3f   mean %5.3f, from %5.3f to %5.3f\n", what.c_str(), sum.total.base, sum.total.other,
+        sum.total.ratio(), std::exp(sum.logs / sum.count), sum.least, sum.most);
+}
+
+} // namespace
+
+// The words are the two libraries, a seed, the seconds for each row of the table, and the folder of the real networks' files.
+int main(int count, char **words) {
+    if (count < 5) return 2;
+    Build base = loaded(words[1]), other = loaded(words[2]);
+    const uint64_t seed = std::strtoull(words[3], nullptr, 10);
+    const double seconds = std::strtod(words[4], nullptr);
+    std::printf("seed %llu, %.2f s for each row; nanoseconds for one network, and new / base\n\n%-9s %5s %5s %11s %11s %7s\n",
+        static_cast<unsigned long long>(seed), seconds, "shape", "regs", "paths", "base ns", "new ns", "ratio");
+    std::vector<Set> sets = all_drawn(seed);
+    for (Set &set : real_sets(count > 5 ? words[5] : "")) sets.push_back(std::move(set));
+    std::vector<std::string> names = shapes();
+    names.push_back("real");
+    std::vector<Sum> sums(names.size());
+    Sum generated, all;
+    for (const Set &set : sets) {
+        check(base, other, set);
+        const Times times = measure(base, other, set, seconds);
+        std::printf("%-9s %5d %5d %11.0f %11.0f %7.3f\n", set.shape.c_str(), set.n, set.m, times.base, times.other, times.ratio());
+        std::fflush(stdout);
+        sums[size_t(std::find(names.begin(), names.end(), set.shape) - names.begin())].add(times);
+        if (set.shape != "real") generated.add(times);
+        all.add(times);
+    }
+    std::printf("\n");
+    for (size_t k = 0; k < names.size(); ++k)
+        if (sums[k].count) print_sum(names[k], sums[k]);
+    print_sum("generated", generated);
+    print_sum("of all", all);
+    std::printf("\n%zu networks; on %zu both outputs are the same byte for byte. Stack: %zu and %zu bytes\n", networks, alike, base.stack,
+        other.stack);
+}

@@ -1,0 +1,4 @@
+pub mod Known
+pub mod Begin
+pub mod Trial
+pub mod Solved

@@ -1,0 +1,2 @@
+-- What the contracts of the rules' sums cite beside the paper.
+pub mod Amounts

@@ -1,0 +1,4 @@
+pub mod Gives
+pub mod Walks
+pub mod Puts
+pub mod Settles

@@ -1,0 +1,80 @@
+-- `text::put_whole` meets its contract: a minus before a number below 0, and then the digits of its size.
+use mathlib.Core.Path.{_≡_, sym, ap, _∙_}
+use mathlib.Core.List.{List, _∷_}
+use Prim.Native.Nat.{ℕ, _≤_}
+use native.Mathlib.Omega.{arith}
+use lib.IntN.{pos, natAbs}
+use lib.ListN.{length, length-set}
+use lib.Signed.{_<ℤ_, _≤ℤ_}
+use mir.Facts.{toZ-ofZ}
+use Rattle.whole.proofs.Lin.{lin}
+use Rattle.text.specs.Decimal.{decimal}
+use Rattle.text.proofs.Decimal.{decimal-few}
+use Rattle.text.proofs.Signs.{small, whole-negative, whole-positive}
+use Rattle.text.proofs.Runs.{byte-first, named, long}
+use borrow.Author.Needs.{needs}
+use Rattle.text.proofs.put_whole.Statement.{statement}
+use Rattle.text.proofs.put_whole.Tie as tie
+
+is-size : (c : tie.After-magnitude) → c .magnitude .result ≡ natAbs (c .before .before .args .z)
+is-size c = c .magnitude .ensures ∙ ap natAbs (toZ-ofZ (c .before .before .fits .z))
+
+ten : (c : tie.After-magnitude) → length (decimal (c .magnitude .result)) ≤ 10
+ten c = decimal-few (c .magnitude .result) 9 (omega (arith, is-size c, small _ (c .before .before .fits .z)))
+
+is-below : (c : tie.Then1) → c .before .before .before .args .z <ℤ pos 0
+is-below c = let f = c .before .before .before .fits .z in omega lin
+
+is-from : (c : tie.Else1) → pos 0 ≤ℤ c .before .before .before .args .z
+is-from c = let f = c .before .before .before .fits .z in omega lin
+
+magnitude-requires : tie.Need-magnitude-requires
+magnitude-requires c κs = search needs
+
+slice-write-text : tie.Need-slice-write-text
+slice-write-text c = search needs
+
+add-put-digits : tie.Need-add-put-digits
+add-put-digits c = search needs
+
+put-digits-requires : tie.Need-put-digits-requires
+put-digits-requires c κs = let h = ten (c .before .before) in simp length-set (omega arith)
+
+same-length : tie.Need-same-length
+same-length c = simp length-set at (long (c .before .before .put-digits .ensures))
+
+returns : tie.Need-returns
+returns c =
+    let k = c .before .before .before .before .before in
+    let h = ten k in
+    let p = c .before .before .put-digits .ensures .place in
+    let e = whole-negative _ (is-below (c .before .before .before .before)) ∙ ap {B = List ℕ} (λ n. 45 ∷ decimal n) (sym (is-size k)) in
+    (named (byte-first _ _ _ (c .before .before .put-digits .ensures)) (sym e), omega arith)
+
+put-digits-requires-2 : tie.Need-put-digits-requires-2
+put-digits-requires-2 c κs = let h = ten (c .before .before) in omega arith
+
+same-length-2 : tie.Need-same-length-2
+same-length-2 c = search needs
+
+returns-2 : tie.Need-returns-2
+returns-2 c =
+    let k = c .before .before .before .before .before in
+    let h = ten k in
+    let p = c .before .before .put-digits2 .ensures .place in
+    let e = whole-positive _ (is-from (c .before .before .before .before)) ∙ ap decimal (sym (is-size k)) in
+    (named (c .before .before .put-digits2 .ensures) (sym e), omega arith)
+
+pub put-whole-spec : {M : Type 1} → statement M
+put-whole-spec =
+    tie.close
+    (tie.spec
+    magnitude-requires
+    slice-write-text
+    add-put-digits
+    put-digits-requires
+    same-length
+    returns
+    put-digits-requires-2
+    same-length-2
+    returns-2)
