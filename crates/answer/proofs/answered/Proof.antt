@@ -19,38 +19,23 @@ use Rattle.answer.proofs.answered.Tie as tie
 abbrev entered : (c : tie.After-slice-known4) → tie.After-put-entries
 entered c = c .before .before
 
+abbrev put-latencies-at-put-entries-arg : (c : tie.After-put-entries-arg) → tie.After-put-latencies
+put-latencies-at-put-entries-arg c = c .before .before .before
+
 abbrev timed : (c : tie.After-put-entries) → tie.After-put-latencies
-timed c = c .before .before .before .before
+timed c = put-latencies-at-put-entries-arg (c .before)
+
+abbrev put-skew-at-put-latencies-arg : (c : tie.After-put-latencies-arg) → tie.After-put-skew
+put-skew-at-put-latencies-arg c = c .before .before .before
 
 abbrev headed : (c : tie.After-put-latencies) → tie.After-put-skew
-headed c = c .before .before .before .before
+headed c = put-skew-at-put-latencies-arg (c .before)
+
+abbrev start-at-shared-slice-known2 : (c : tie.After-shared-slice-known2) → tie.Start
+start-at-shared-slice-known2 c = c .before .before .before
 
 abbrev start : (c : tie.After-put-skew) → tie.Start
-start c = c .before .before .before .before .before .before
-
-cast-put-skew : tie.Need-cast-put-skew
-cast-put-skew c = search needs
-
-cast-put-skew-2 : tie.Need-cast-put-skew-2
-cast-put-skew-2 c = search needs
-
-put-skew-requires : tie.Need-put-skew-requires
-put-skew-requires c κs = search needs
-
-put-latencies-requires : tie.Need-put-latencies-requires
-put-latencies-requires c κs = search needs
-
-mul-put-entries : tie.Need-mul-put-entries
-mul-put-entries c = search needs
-
-add-put-entries : tie.Need-add-put-entries
-add-put-entries c = search needs
-
-put-entries-requires : tie.Need-put-entries-requires
-put-entries-requires c κs = search needs
-
-same-length : tie.Need-same-length
-same-length c = search needs
+start c = start-at-shared-slice-known2 (c .before .before .before)
 
 returns : tie.Need-returns
 returns c =
@@ -68,12 +53,12 @@ pub answered-spec : {M : Type 1} → statement M
 answered-spec =
     tie.close
     (tie.spec
-    cast-put-skew
-    cast-put-skew-2
-    put-skew-requires
-    put-latencies-requires
-    mul-put-entries
-    add-put-entries
-    put-entries-requires
-    same-length
+    (λ c. search needs)
+    (λ c. search needs)
+    (λ c κs. search needs)
+    (λ c κs. search needs)
+    (λ c. search needs)
+    (λ c. search needs)
+    (λ c κs. search needs)
+    (λ c. search needs)
     returns)

@@ -19,23 +19,17 @@ use Rattle.answer.proofs.loop_alone.Tie as tie
 abbrev entered : (c : tie.After-slice-known3) → tie.After-put-entries
 entered c = c .before .before
 
+abbrev put-skew-at-put-entries-arg : (c : tie.After-put-entries-arg) → tie.After-put-skew
+put-skew-at-put-entries-arg c = c .before .before .before
+
 abbrev headed : (c : tie.After-put-entries) → tie.After-put-skew
-headed c = c .before .before .before .before
+headed c = put-skew-at-put-entries-arg (c .before)
+
+abbrev start-at-shared-slice-known2 : (c : tie.After-shared-slice-known2) → tie.Start
+start-at-shared-slice-known2 c = c .before .before .before
 
 abbrev start : (c : tie.After-put-skew) → tie.Start
-start c = c .before .before .before .before .before .before
-
-cast-put-skew : tie.Need-cast-put-skew
-cast-put-skew c = search needs
-
-put-skew-requires : tie.Need-put-skew-requires
-put-skew-requires c κs = search needs
-
-put-entries-requires : tie.Need-put-entries-requires
-put-entries-requires c κs = search needs
-
-same-length : tie.Need-same-length
-same-length c = search needs
+start c = start-at-shared-slice-known2 (c .before .before .before)
 
 returns : tie.Need-returns
 returns c =
@@ -50,4 +44,4 @@ returns c =
 
 pub loop-alone-spec : {M : Type 1} → statement M
 loop-alone-spec =
-    tie.close (tie.spec cast-put-skew put-skew-requires put-entries-requires same-length returns)
+    tie.close (tie.spec (λ c. search needs) (λ c κs. search needs) (λ c κs. search needs) (λ c. search needs) returns)

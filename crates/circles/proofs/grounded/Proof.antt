@@ -14,8 +14,11 @@ abbrev μ-loop : tie.MeasureT-loop
 μ-loop tail head amount n m p s k₀ v₀ k v = n - k
 
 -- the places that are spoken of, each from the one after it
+abbrev start-at-shared-slice-known3 : (c : tie.After-shared-slice-known3 Inv-loop μ-loop) → tie.Start Inv-loop μ-loop
+start-at-shared-slice-known3 c = c .before .before .before
+
 abbrev entry : (c : tie.At-loop Inv-loop μ-loop) → tie.Start Inv-loop μ-loop
-entry c = c .before .before .before .before
+entry c = start-at-shared-slice-known3 (c .before)
 
 abbrev onward : (c : tie.Else1 Inv-loop μ-loop) → tie.In-loop Inv-loop μ-loop
 onward c = c .before .before

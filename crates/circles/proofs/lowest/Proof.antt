@@ -13,8 +13,11 @@ Inv-loop tail head amount n m p s k₀ v₀ low₀ k v low = Lowered (arrows n m
 abbrev μ-loop : tie.MeasureT-loop
 μ-loop tail head amount n m p s k₀ v₀ low₀ k v low = n - k
 
+abbrev start-at-shared-slice-known3 : (c : tie.After-shared-slice-known3 Inv-loop μ-loop) → tie.Start Inv-loop μ-loop
+start-at-shared-slice-known3 c = c .before .before .before
+
 abbrev entry : (c : tie.At-loop Inv-loop μ-loop) → tie.Start Inv-loop μ-loop
-entry c = c .before .before .before .before
+entry c = start-at-shared-slice-known3 (c .before)
 
 loop-holds : tie.Need-loop-holds Inv-loop μ-loop
 loop-holds c = lowered-none _ _ _

@@ -12,8 +12,11 @@ use Rattle.circles.proofs.show.Statement.{statement}
 use Rattle.circles.proofs.show.Tie as tie
 
 -- the places that are spoken of, each from the one after it
+abbrev start-at-shared-slice-known3 : (c : tie.After-shared-slice-known3) → tie.Start
+start-at-shared-slice-known3 c = c .before .before .before
+
 abbrev entry : (c : tie.After-circle) → tie.Start
-entry c = c .before .before .before .before .before
+entry c = start-at-shared-slice-known3 (c .before .before)
 
 abbrev listed : (c : tie.After-slice-known2) → tie.After-list
 listed c = c .before .before
@@ -23,17 +26,11 @@ listable : (c : tie.After-circle) → Listable (arrows (entry c .args .n) (entry
     (now (entry c .args .p)) (c .circle .result .start) (c .circle .result .steps)
 listable c = let k = entry c in found-listable _ _ _ _ _ (c .circle .ensures) (k .pre .0 .sound) (k .pre .1 .2) (k .pre .1 .3)
 
-circle-requires : tie.Need-circle-requires
-circle-requires c κs = search needs
-
 list-requires : tie.Need-list-requires
 list-requires c κs =
     let k = entry (c .before) in
     let l = listable (c .before) in
     (k .pre .0, ((k .pre .1 .0, l .start-below, let s = l .short in let r = k .pre .1 .1 in omega arith), l .arrows))
-
-same-length : tie.Need-same-length
-same-length c = search needs
 
 returns : tie.Need-returns
 returns c =
@@ -46,4 +43,4 @@ returns c =
     )
 
 pub show-spec : {M : Type 1} → statement M
-show-spec = tie.close (tie.spec circle-requires list-requires same-length returns)
+show-spec = tie.close (tie.spec (λ c κs. search needs) list-requires (λ c. search needs) returns)

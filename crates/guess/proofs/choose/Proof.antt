@@ -25,8 +25,11 @@ turn-old c = c .before .before
 abbrev turn : (c : tie.After-is-heavier Inv-loop μ-loop) → tie.In-loop Inv-loop μ-loop
 turn c = turn-old (c .before)
 
+abbrev start-at-slice-known : (c : tie.After-slice-known Inv-loop μ-loop) → tie.Start Inv-loop μ-loop
+start-at-slice-known c = c .before .before .before
+
 abbrev start : (c : tie.At-loop Inv-loop μ-loop) → tie.Start Inv-loop μ-loop
-start c = c .before .before .before .before
+start c = start-at-slice-known (c .before)
 
 -- the arrow that a turn looks at leads into a register
 abbrev reach : (c : tie.In-loop Inv-loop μ-loop) → ℕ

@@ -30,14 +30,23 @@ shown c = c .before .before .before
 abbrev left : (c : tie.After-show) → tie.Else1
 left c = c .before .before .before
 
+abbrev choose-at-grounded-arg : (c : tie.After-grounded-arg) → tie.After-choose
+choose-at-grounded-arg c = c .before .before .before
+
 abbrev chosen : (c : tie.After-grounded) → tie.After-choose
-chosen c = c .before .before .before .before
+chosen c = choose-at-grounded-arg (c .before)
+
+abbrev clear-at-choose-arg : (c : tie.After-choose-arg) → tie.After-clear
+clear-at-choose-arg c = c .before .before .before
 
 abbrev cleared : (c : tie.After-choose) → tie.After-clear
-cleared c = c .before .before .before .before
+cleared c = clear-at-choose-arg (c .before)
+
+abbrev start-at-slice-known : (c : tie.After-slice-known) → tie.Start
+start-at-slice-known c = c .before .before .before
 
 abbrev start : (c : tie.After-clear) → tie.Start
-start c = c .before .before .before .before .before .before
+start c = start-at-slice-known (c .before .before .before)
 
 abbrev origin : (c : tie.After-grounded) → tie.Start
 origin c = start (cleared (chosen c))
@@ -75,23 +84,11 @@ shows c =
     guess-shows (Γ k) (k .pre .0) _ _ (below k) (stray (left c)) (ring c) _ (c .show .ensures .1) (room c) (c .show .ensures .2)
     (chosen (left c .before) .choose .ensures)
 
-clear-requires : tie.Need-clear-requires
-clear-requires c κs = search needs
-
 choose-requires : tie.Need-choose-requires
 choose-requires c κs =
     let w = c .before .before .before in
     let shape = start w .pre .0 in
     (shape, cleared-chosen _ _ shape (w .clear .ensures))
-
-sub-s : tie.Need-sub-s
-sub-s c = search needs
-
-grounded-requires : tie.Need-grounded-requires
-grounded-requires c κs = search needs
-
-same-length : tie.Need-same-length
-same-length c = search needs
 
 returns : tie.Need-returns
 returns c = guess-none _ _
@@ -105,23 +102,11 @@ show-requires c κs =
 total-of-requires : tie.Need-total-of-requires
 total-of-requires c κs = places (shown c)
 
-same-length-2 : tie.Need-same-length-2
-same-length-2 c = search needs
-
-same-length-3 : tie.Need-same-length-3
-same-length-3 c = search needs
-
 returns-2 : tie.Need-returns-2
 returns-2 c =
     let f : SFits w64 (c .before .total-of .result) = search needs in
     let over : pos 0 <ℤ c .before .total-of .result = let t = c .if2 .taken in omega lin in
     shows (shown (c .before .before)) (rw (c .before .total-of .ensures) at over)
-
-same-length-4 : tie.Need-same-length-4
-same-length-4 c = search needs
-
-same-length-5 : tie.Need-same-length-5
-same-length-5 c = search needs
 
 returns-3 : tie.Need-returns-3
 returns-3 c = guess-none _ _
@@ -130,17 +115,17 @@ pub guess-spec : {M : Type 1} → statement M
 guess-spec =
     tie.close
     (tie.spec
-    clear-requires
+    (λ c κs. search needs)
     choose-requires
-    sub-s
-    grounded-requires
-    same-length
+    (λ c. search needs)
+    (λ c κs. search needs)
+    (λ c. search needs)
     returns
     show-requires
     total-of-requires
-    same-length-2
-    same-length-3
+    (λ c. search needs)
+    (λ c. search needs)
     returns-2
-    same-length-4
-    same-length-5
+    (λ c. search needs)
+    (λ c. search needs)
     returns-3)

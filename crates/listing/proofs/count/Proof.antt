@@ -10,9 +10,6 @@ use borrow.Author.Needs.{needs}
 use Rattle.listing.proofs.count.Statement.{statement}
 use Rattle.listing.proofs.count.Tie as tie
 
-number-requires : tie.Need-number-requires
-number-requires c κs = search needs
-
 from-zero : (c : tie.After-number) → pos 0 ≤ℤ c .number .result
 from-zero c = subst (λ z. pos 0 ≤ℤ z) (sym (c .number .ensures)) (c .before .before .pre .1)
 
@@ -28,4 +25,4 @@ returns c =
     rw (toZ-ofZ f) (natural-is (c .number .result) (from-zero c) ∙ c .number .ensures)
 
 pub count-spec : {M : Type 1} → statement M
-count-spec = tie.close (tie.spec number-requires cast-result returns)
+count-spec = tie.close (tie.spec (λ c κs. search needs) cast-result returns)

@@ -5,18 +5,25 @@ use borrow.Author.Needs.{needs}
 use Rattle.listing.proofs.list.Statement.{statement}
 use Rattle.listing.proofs.list.Tie as tie
 
-write-requires : tie.Need-write-requires
-write-requires c κs = search needs
+-- ---- the places
 
-same-length : tie.Need-same-length
-same-length c = search needs
+abbrev start-at-slice-known : (c : tie.After-slice-known) → tie.Start
+start-at-slice-known c = c .before .before .before
+
+abbrev start-at-text : (c : tie.After-text) → tie.Start
+start-at-text c = start-at-slice-known (c .before .before .before)
+
+abbrev start-at-slice-known2 : (c : tie.After-slice-known2) → tie.Start
+start-at-slice-known2 c = start-at-text (c .before)
+
+-- ---- the answers
 
 returns : tie.Need-returns
 returns c =
-    let s = c .before .before .before .before .before .before .before in
+    let s = start-at-slice-known2 c in
     let w = c .before .before .write .ensures in
     let p = w .0 .place in
     front (w .0) (omega (arith, w .1, s .pre .room))
 
 pub list-spec : {M : Type 1} → statement M
-list-spec = tie.close (tie.spec write-requires same-length returns)
+list-spec = tie.close (tie.spec (λ c κs. search needs) (λ c. search needs) returns)

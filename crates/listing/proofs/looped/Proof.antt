@@ -11,26 +11,26 @@ use Rattle.listing.proofs.looped.Statement.{statement}
 use Rattle.listing.proofs.looped.Tie as tie
 
 -- the places of the code: behind the count, and behind the line of the refusal
-abbrev from-count : tie.After-count → tie.Start
-from-count c = c .before .before .before .before
+abbrev start-at-slice-known : (c : tie.After-slice-known) → tie.Start
+start-at-slice-known c = c .before .before .before
+
+abbrev from-count : (c : tie.After-count) → tie.Start
+from-count c = start-at-slice-known (c .before)
 
 abbrev count-of : tie.After-put-refusal → tie.After-count
 count-of c = c .before .before .before
 
-abbrev line-of : tie.After-put-loop → tie.After-put-refusal
-line-of c = c .before .before .before .before
+abbrev put-refusal-at-put-loop-arg : (c : tie.After-put-loop-arg) → tie.After-put-refusal
+put-refusal-at-put-loop-arg c = c .before .before .before
+
+abbrev line-of : (c : tie.After-put-loop) → tie.After-put-refusal
+line-of c = put-refusal-at-put-loop-arg (c .before)
 
 k-is : (c : tie.After-count) → c .count .result ≡ from-count c .pre .0 .k
 k-is c = same-count _ _ _ (c .count .ensures) (from-count c .pre .0 .entries-are)
 
 count-requires : tie.Need-count-requires
 count-requires c κs = let f = c .before .before .before .pre .0 in (omega (arith, f .within), not-negative _ _ (f .entries-are))
-
-number-requires : tie.Need-number-requires
-number-requires c κs = search needs
-
-put-refusal-requires : tie.Need-put-refusal-requires
-put-refusal-requires c κs = search needs
 
 put-loop-requires : tie.Need-put-loop-requires
 put-loop-requires c κs =
@@ -41,9 +41,6 @@ put-loop-requires c κs =
     let w = line .put-refusal .ensures in
     let l = long (w .0) in
     (omega (arith, f .within), omega (arith, f .few-entries, w .1, s .pre .1))
-
-same-length : tie.Need-same-length
-same-length c = search needs
 
 returns : tie.Need-returns
 returns c =
@@ -65,8 +62,8 @@ looped-spec =
     tie.close
     (tie.spec
     count-requires
-    number-requires
-    put-refusal-requires
+    (λ c κs. search needs)
+    (λ c κs. search needs)
     put-loop-requires
-    same-length
+    (λ c. search needs)
     returns)

@@ -18,6 +18,31 @@ Inv-loop text₀ at answer start k next₀ j₀ text next j = Lines (entryLines 
 abbrev μ-loop : tie.MeasureT-loop
 μ-loop text₀ at answer start k next₀ j₀ text next j = k - j
 
+-- ---- the places
+
+abbrev at-loop-at-number2 : (c : tie.After-number2 Inv-loop μ-loop) → tie.At-loop Inv-loop μ-loop
+at-loop-at-number2 c = c .before .before .before
+
+abbrev at-loop-at-put-entry-arg : (c : tie.After-put-entry-arg Inv-loop μ-loop) → tie.At-loop Inv-loop μ-loop
+at-loop-at-put-entry-arg c = at-loop-at-number2 (c .before)
+
+abbrev number2-at-text : (c : tie.After-text Inv-loop μ-loop) → tie.After-number2 Inv-loop μ-loop
+number2-at-text c = c .before .before .before
+
+abbrev number2-at-slice-known2 : (c : tie.After-slice-known2 Inv-loop μ-loop) → tie.After-number2 Inv-loop μ-loop
+number2-at-slice-known2 c = number2-at-text (c .before)
+
+abbrev number-at-slice-known2 : (c : tie.After-slice-known2 Inv-loop μ-loop) → tie.After-number Inv-loop μ-loop
+number-at-slice-known2 c = (number2-at-slice-known2 c) .before
+
+abbrev in-loop-at-slice-known2 : (c : tie.After-slice-known2 Inv-loop μ-loop) → tie.In-loop Inv-loop μ-loop
+in-loop-at-slice-known2 c = (number2-at-slice-known2 c) .before .before
+
+abbrev start-at-put-entry-arg : (c : tie.After-put-entry-arg Inv-loop μ-loop) → tie.Start Inv-loop μ-loop
+start-at-put-entry-arg c = (at-loop-at-put-entry-arg c) .before .before .before
+
+-- ---- the answers
+
 loop-holds : tie.Need-loop-holds Inv-loop μ-loop
 loop-holds c = lines-none _ _ _ _ (entry-none _ _)
 
@@ -47,8 +72,8 @@ number-requires-2 c κs = omega arith
 
 put-entry-requires : tie.Need-put-entry-requires Inv-loop μ-loop
 put-entry-requires c κs =
-    let v = c .before .before .before .before .loop .inv in
-    let s = c .before .before .before .before .before .before .before in
+    let v = (at-loop-at-put-entry-arg c) .loop .inv in
+    let s = start-at-put-entry-arg c in
     omega (arith, v .few, v .same, v .within, s .pre .1)
 
 add-j : tie.Need-add-j Inv-loop μ-loop
@@ -59,9 +84,9 @@ loop-less c = omega arith
 
 loop-again : tie.Need-loop-again Inv-loop μ-loop
 loop-again c =
-    let turn = c .before .before .before .before .before .before in
-    let kind = c .before .before .before .before .before in
-    let number = c .before .before .before .before in
+    let turn = in-loop-at-slice-known2 c in
+    let kind = number-at-slice-known2 c in
+    let number = number2-at-slice-known2 c in
     let f : SFits w32 (kind .number .result) = search needs in
     let g : SFits w32 (number .number2 .result) = search needs in
     let w = c .before .before .put-entry .ensures in

@@ -18,6 +18,25 @@ Inv-loop text₀ at answer n next₀ i₀ text next i = Lines (latencyLines answ
 abbrev μ-loop : tie.MeasureT-loop
 μ-loop text₀ at answer n next₀ i₀ text next i = n - i
 
+-- ---- the places
+
+abbrev number-at-text : (c : tie.After-text Inv-loop μ-loop) → tie.After-number Inv-loop μ-loop
+number-at-text c = c .before .before .before
+
+abbrev number-at-slice-known2 : (c : tie.After-slice-known2 Inv-loop μ-loop) → tie.After-number Inv-loop μ-loop
+number-at-slice-known2 c = number-at-text (c .before)
+
+abbrev in-loop-at-slice-known2 : (c : tie.After-slice-known2 Inv-loop μ-loop) → tie.In-loop Inv-loop μ-loop
+in-loop-at-slice-known2 c = (number-at-slice-known2 c) .before
+
+abbrev start-at-at-loop : (c : tie.At-loop Inv-loop μ-loop) → tie.Start Inv-loop μ-loop
+start-at-at-loop c = c .before .before .before
+
+abbrev start-at-put-latency-arg : (c : tie.After-put-latency-arg Inv-loop μ-loop) → tie.Start Inv-loop μ-loop
+start-at-put-latency-arg c = start-at-at-loop (c .before .before .before)
+
+-- ---- the answers
+
 loop-holds : tie.Need-loop-holds Inv-loop μ-loop
 loop-holds c = lines-none _ _ _ _ (latency-none _)
 
@@ -36,7 +55,7 @@ number-requires c κs = omega arith
 put-latency-requires : tie.Need-put-latency-requires Inv-loop μ-loop
 put-latency-requires c κs =
     let v = c .before .before .before .loop .inv in
-    let s = c .before .before .before .before .before .before in
+    let s = start-at-put-latency-arg c in
     omega (arith, v .few, v .same, v .within, s .pre .0, s .pre .2)
 
 add-i : tie.Need-add-i Inv-loop μ-loop
@@ -47,8 +66,8 @@ loop-less c = omega arith
 
 loop-again : tie.Need-loop-again Inv-loop μ-loop
 loop-again c =
-    let turn = c .before .before .before .before .before in
-    let number = c .before .before .before .before in
+    let turn = in-loop-at-slice-known2 c in
+    let number = number-at-slice-known2 c in
     let f : SFits w32 (number .number .result) = search needs in
     let w = c .before .before .put-latency .ensures in
     lines-more _ _ _ _ _ _ _ _ _ _ (turn .before .loop .inv) (turn .loop-test .taken) (latency-more _ _)

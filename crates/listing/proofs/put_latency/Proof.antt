@@ -14,17 +14,26 @@ use Rattle.listing.proofs.put_latency.Statement.{statement}
 use Rattle.listing.proofs.put_latency.Tie as tie
 
 -- the places of the code: behind the word, behind the register, each with the one before it and the start
-abbrev from-word : tie.After-put-text → tie.Start
-from-word c = c .before .before .before .before
+abbrev start-at-put-text-arg2 : (c : tie.After-put-text-arg2) → tie.Start
+start-at-put-text-arg2 c = c .before .before .before
 
-abbrev word-of : tie.After-put-digits → tie.After-put-text
-word-of c = c .before .before .before .before
+abbrev from-word : (c : tie.After-put-text) → tie.Start
+from-word c = start-at-put-text-arg2 (c .before)
+
+abbrev put-text-at-put-digits-arg : (c : tie.After-put-digits-arg) → tie.After-put-text
+put-text-at-put-digits-arg c = c .before .before .before
+
+abbrev word-of : (c : tie.After-put-digits) → tie.After-put-text
+word-of c = put-text-at-put-digits-arg (c .before)
 
 abbrev from-register : tie.After-put-digits → tie.Start
 from-register c = from-word (word-of c)
 
-abbrev register-of : tie.After-put-whole → tie.After-put-digits
-register-of c = c .before .before .before .before
+abbrev put-digits-at-put-whole-arg : (c : tie.After-put-whole-arg) → tie.After-put-digits
+put-digits-at-put-whole-arg c = c .before .before .before
+
+abbrev register-of : (c : tie.After-put-whole) → tie.After-put-digits
+register-of c = put-digits-at-put-whole-arg (c .before)
 
 three : (s : tie.Start) → length (decimal (s .args .i)) ≤ 3
 three s = decimal-few (s .args .i) 2 (omega (arith, s .pre .1))
@@ -40,12 +49,6 @@ behind c =
     let q = v .place in
     let h = three (from-register c) in
     (omega arith, long v ∙ long w)
-
-slice-aggregate-put-text : tie.Need-slice-aggregate-put-text
-slice-aggregate-put-text c = search needs
-
-put-text-requires : tie.Need-put-text-requires
-put-text-requires c κs = search needs
 
 put-digits-requires : tie.Need-put-digits-requires
 put-digits-requires c κs =
@@ -110,8 +113,8 @@ pub put-latency-spec : {M : Type 1} → statement M
 put-latency-spec =
     tie.close
     (tie.spec
-    slice-aggregate-put-text
-    put-text-requires
+    (λ c. search needs)
+    (λ c κs. search needs)
     put-digits-requires
     slice-write-text
     add-put-whole

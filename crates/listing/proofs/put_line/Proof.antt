@@ -9,28 +9,32 @@ use borrow.Author.Needs.{needs}
 use Rattle.listing.proofs.put_line.Statement.{statement}
 use Rattle.listing.proofs.put_line.Tie as tie
 
-put-text-requires : tie.Need-put-text-requires
-put-text-requires c κs = search needs
+-- ---- the places
 
-put-whole-requires : tie.Need-put-whole-requires
-put-whole-requires c κs = search needs
+abbrev put-text-at-put-whole-arg : (c : tie.After-put-whole-arg) → tie.After-put-text
+put-text-at-put-whole-arg c = c .before .before .before
 
-slice-write-text : tie.Need-slice-write-text
-slice-write-text c = search needs
+abbrev put-text-at-slice-known3 : (c : tie.After-slice-known3) → tie.After-put-text
+put-text-at-slice-known3 c = put-text-at-put-whole-arg (c .before .before .before)
 
-add-result : tie.Need-add-result
-add-result c = search needs
+abbrev put-text-arg-at-slice-known3 : (c : tie.After-slice-known3) → tie.After-put-text-arg
+put-text-arg-at-slice-known3 c = (put-text-at-slice-known3 c) .before
+
+abbrev start-at-slice-known3 : (c : tie.After-slice-known3) → tie.Start
+start-at-slice-known3 c = (put-text-arg-at-slice-known3 c) .before .before .before
+
+-- ---- the answers
 
 same-length : tie.Need-same-length
 same-length c =
-    let w = c .before .before .before .before .before .before .put-text .ensures in
+    let w = (put-text-at-slice-known3 c) .put-text .ensures in
     simp length-set (long (c .before .before .put-whole .ensures .0) ∙ long w)
 
 returns : tie.Need-returns
 returns c =
-    let w = c .before .before .before .before .before .before .put-text .ensures in
+    let w = (put-text-at-slice-known3 c) .put-text .ensures in
     let v = c .before .before .put-whole .ensures in
-    let f = c .before .before .before .before .before .before .before .before .before .before .fits .z in
+    let f = (start-at-slice-known3 c) .fits .z in
     let p = w .place in
     let q = v .1 in
     (line-written w (v .0) (toZ-ofZ f), omega arith)
@@ -38,4 +42,4 @@ returns c =
 pub put-line-spec : {M : Type 1} → statement M
 put-line-spec =
     tie.close
-    (tie.spec put-text-requires put-whole-requires slice-write-text add-result same-length returns)
+    (tie.spec (λ c κs. search needs) (λ c κs. search needs) (λ c. search needs) (λ c. search needs) same-length returns)

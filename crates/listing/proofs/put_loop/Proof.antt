@@ -8,22 +8,26 @@ use borrow.Author.Needs.{needs}
 use Rattle.listing.proofs.put_loop.Statement.{statement}
 use Rattle.listing.proofs.put_loop.Tie as tie
 
-slice-aggregate-put-line : tie.Need-slice-aggregate-put-line
-slice-aggregate-put-line c = search needs
+-- ---- the places
 
-put-line-requires : tie.Need-put-line-requires
-put-line-requires c κs = search needs
+abbrev put-line-at-put-entries-arg : (c : tie.After-put-entries-arg) → tie.After-put-line
+put-line-at-put-entries-arg c = c .before .before .before
 
-put-entries-requires : tie.Need-put-entries-requires
-put-entries-requires c κs = search needs
+abbrev put-line-at-slice-known3 : (c : tie.After-slice-known3) → tie.After-put-line
+put-line-at-slice-known3 c = put-line-at-put-entries-arg (c .before .before .before)
 
-same-length : tie.Need-same-length
-same-length c = search needs
+abbrev put-line-arg-at-slice-known3 : (c : tie.After-slice-known3) → tie.After-put-line-arg
+put-line-arg-at-slice-known3 c = (put-line-at-slice-known3 c) .before .before
+
+abbrev start-at-slice-known3 : (c : tie.After-slice-known3) → tie.Start
+start-at-slice-known3 c = (put-line-arg-at-slice-known3 c) .before .before .before
+
+-- ---- the answers
 
 returns : tie.Need-returns
 returns c =
-    let s = c .before .before .before .before .before .before .before .before .before .before .before in
-    let w = c .before .before .before .before .before .before .put-line .ensures in
+    let s = start-at-slice-known3 c in
+    let w = (put-line-at-slice-known3 c) .put-line .ensures in
     let v = c .before .before .put-entries .ensures in
     let p = w .1 in
     let q = v .1 in
@@ -32,4 +36,4 @@ returns c =
 pub put-loop-spec : {M : Type 1} → statement M
 put-loop-spec =
     tie.close
-    (tie.spec slice-aggregate-put-line put-line-requires put-entries-requires same-length returns)
+    (tie.spec (λ c. search needs) (λ c κs. search needs) (λ c κs. search needs) (λ c. search needs) returns)

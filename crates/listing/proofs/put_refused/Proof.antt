@@ -13,17 +13,26 @@ use Rattle.listing.proofs.put_refused.Statement.{statement}
 use Rattle.listing.proofs.put_refused.Tie as tie
 
 -- the places of the code: behind the word, behind the number, behind the place, each with the one before it and the start
-abbrev from-word : tie.After-put-text → tie.Start
-from-word c = c .before .before .before .before
+abbrev start-at-put-text-arg2 : (c : tie.After-put-text-arg2) → tie.Start
+start-at-put-text-arg2 c = c .before .before .before
 
-abbrev word-of : tie.After-put-digits → tie.After-put-text
-word-of c = c .before .before .before .before
+abbrev from-word : (c : tie.After-put-text) → tie.Start
+from-word c = start-at-put-text-arg2 (c .before)
+
+abbrev put-text-at-put-digits-arg : (c : tie.After-put-digits-arg) → tie.After-put-text
+put-text-at-put-digits-arg c = c .before .before .before
+
+abbrev word-of : (c : tie.After-put-digits) → tie.After-put-text
+word-of c = put-text-at-put-digits-arg (c .before)
 
 abbrev from-number : tie.After-put-digits → tie.Start
 from-number c = from-word (word-of c)
 
-abbrev number-of : tie.After-put-digits2 → tie.After-put-digits
-number-of c = c .before .before .before .before
+abbrev put-digits-at-put-digits-arg2 : (c : tie.After-put-digits-arg2) → tie.After-put-digits
+put-digits-at-put-digits-arg2 c = c .before .before .before
+
+abbrev number-of : (c : tie.After-put-digits2) → tie.After-put-digits
+number-of c = put-digits-at-put-digits-arg2 (c .before)
 
 -- a number of 32 bits has at most 10 digits, a place of 64 at most 20
 ten : (s : tie.Start) → length (decimal (s .args .number)) ≤ 10
@@ -41,12 +50,6 @@ behind c =
     let q = v .place in
     let h = ten (from-number c) in
     (omega arith, long v ∙ long w)
-
-slice-aggregate-put-text : tie.Need-slice-aggregate-put-text
-slice-aggregate-put-text c = search needs
-
-put-text-requires : tie.Need-put-text-requires
-put-text-requires c κs = search needs
 
 put-digits-requires : tie.Need-put-digits-requires
 put-digits-requires c κs =
@@ -115,8 +118,8 @@ pub put-refused-spec : {M : Type 1} → statement M
 put-refused-spec =
     tie.close
     (tie.spec
-    slice-aggregate-put-text
-    put-text-requires
+    (λ c. search needs)
+    (λ c κs. search needs)
     put-digits-requires
     slice-write-text
     add-put-digits

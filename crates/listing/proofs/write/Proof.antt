@@ -11,20 +11,23 @@ use Rattle.listing.proofs.write.Statement.{statement}
 use Rattle.listing.proofs.write.Tie as tie
 
 -- from where an arm is told its case back to the start
-abbrev start : tie.After-enum-told → tie.Start
-start c = c .before .before .before .before .before
+abbrev start-at-slice-known : (c : tie.After-slice-known) → tie.Start
+start-at-slice-known c = c .before .before .before
 
-abbrev start-2 : tie.After-enum-told2 → tie.Start
-start-2 c = c .before .before .before .before .before
+abbrev start : (c : tie.After-enum-told) → tie.Start
+start c = start-at-slice-known (c .before .before)
 
-abbrev start-3 : tie.After-enum-told3 → tie.Start
-start-3 c = c .before .before .before .before .before
+abbrev start-2 : (c : tie.After-enum-told2) → tie.Start
+start-2 c = start-at-slice-known (c .before .before)
 
-abbrev start-4 : tie.After-enum-told4 → tie.Start
-start-4 c = c .before .before .before .before .before
+abbrev start-3 : (c : tie.After-enum-told3) → tie.Start
+start-3 c = start-at-slice-known (c .before .before)
 
-abbrev start-5 : tie.After-enum-told5 → tie.Start
-start-5 c = c .before .before .before .before .before
+abbrev start-4 : (c : tie.After-enum-told4) → tie.Start
+start-4 c = start-at-slice-known (c .before .before)
+
+abbrev start-5 : (c : tie.After-enum-told5) → tie.Start
+start-5 c = start-at-slice-known (c .before .before)
 
 enum-told : tie.Need-enum-told
 enum-told c = search needs
@@ -34,36 +37,15 @@ answered-requires c κs =
     let s = start (c .before) in
     (subst (λ y. Counted (now (s .args .file)) y (now (s .args .answer))) (c .before .enum-told .given .1) (s .pre .counted), s .pre .room)
 
-enum-told-2 : tie.Need-enum-told-2
-enum-told-2 c = search needs
-
-put-refusal-requires : tie.Need-put-refusal-requires
-put-refusal-requires c κs = search needs
-
-enum-told-3 : tie.Need-enum-told-3
-enum-told-3 c = search needs
-
-put-refusal-requires-2 : tie.Need-put-refusal-requires-2
-put-refusal-requires-2 c κs = search needs
-
-enum-told-4 : tie.Need-enum-told-4
-enum-told-4 c = search needs
-
 looped-requires : tie.Need-looped-requires
 looped-requires c κs =
     let s = start-4 (c .before) in
     (subst (λ y. Counted (now (s .args .file)) y (now (s .args .answer))) (c .before .enum-told4 .given .1) (s .pre .counted), s .pre .room)
 
-enum-told-5 : tie.Need-enum-told-5
-enum-told-5 c = search needs
-
 looped-requires-2 : tie.Need-looped-requires-2
 looped-requires-2 c κs =
     let s = start-5 (c .before) in
     (subst (λ y. Counted (now (s .args .file)) y (now (s .args .answer))) (c .before .enum-told5 .given .1) (s .pre .counted), s .pre .room)
-
-same-length : tie.Need-same-length
-same-length c = search needs
 
 returns : tie.Need-returns
 returns c =
@@ -73,9 +55,6 @@ returns c =
     let w = call .answered .ensures in
     (named (w .0) (told-text (now (s .args .file)) (now (s .args .answer)) (λ y. answeredText (now (s .args .answer))) (told .enum-told .given .1) refl), omega (arith, w .1))
 
-same-length-2 : tie.Need-same-length-2
-same-length-2 c = search needs
-
 returns-2 : tie.Need-returns-2
 returns-2 c =
     let call = c .before .before in
@@ -83,9 +62,6 @@ returns-2 c =
     let s = start-2 told in
     let w = call .put-refusal .ensures in
     (named (w .0) (told-text (now (s .args .file)) (now (s .args .answer)) refused (told .enum-told2 .given .1) refl), omega (arith, w .1))
-
-same-length-3 : tie.Need-same-length-3
-same-length-3 c = search needs
 
 returns-3 : tie.Need-returns-3
 returns-3 c =
@@ -95,9 +71,6 @@ returns-3 c =
     let w = call .put-refusal2 .ensures in
     (named (w .0) (told-text (now (s .args .file)) (now (s .args .answer)) refused (told .enum-told3 .given .1) refl), omega (arith, w .1))
 
-same-length-4 : tie.Need-same-length-4
-same-length-4 c = search needs
-
 returns-4 : tie.Need-returns-4
 returns-4 c =
     let call = c .before .before in
@@ -105,9 +78,6 @@ returns-4 c =
     let s = start-4 told in
     let w = call .looped .ensures in
     (named (w .0) (told-text (now (s .args .file)) (now (s .args .answer)) (looped-text (now (s .args .file)) (now (s .args .answer))) (told .enum-told4 .given .1) refl), omega (arith, w .1))
-
-same-length-5 : tie.Need-same-length-5
-same-length-5 c = search needs
 
 returns-5 : tie.Need-returns-5
 returns-5 c =
@@ -123,21 +93,21 @@ write-spec =
     (tie.spec
     enum-told
     answered-requires
-    enum-told-2
-    put-refusal-requires
-    enum-told-3
-    put-refusal-requires-2
-    enum-told-4
+    (λ c. search needs)
+    (λ c κs. search needs)
+    (λ c. search needs)
+    (λ c κs. search needs)
+    (λ c. search needs)
     looped-requires
-    enum-told-5
+    (λ c. search needs)
     looped-requires-2
-    same-length
+    (λ c. search needs)
     returns
-    same-length-2
+    (λ c. search needs)
     returns-2
-    same-length-3
+    (λ c. search needs)
     returns-3
-    same-length-4
+    (λ c. search needs)
     returns-4
-    same-length-5
+    (λ c. search needs)
     returns-5)

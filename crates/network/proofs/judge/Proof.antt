@@ -10,20 +10,57 @@ use Rattle.network.proofs.Judging.{headed-length, at-header, at-counts,
 use Rattle.network.proofs.judge.Statement.{statement}
 use Rattle.network.proofs.judge.Tie as tie
 
+-- ---- the places
+
+abbrev else2-at-else3 : (c : tie.Else3) → tie.Else2
+else2-at-else3 c = c .before .before .before
+
+abbrev else2-at-then4 : (c : tie.Then4) → tie.Else2
+else2-at-then4 c = else2-at-else3 (c .before)
+
+abbrev else2-at-else4 : (c : tie.Else4) → tie.Else2
+else2-at-else4 c = else2-at-else3 (c .before)
+
+abbrev start-at-else1 : (c : tie.Else1) → tie.Start
+start-at-else1 c = c .before .before .before
+
+abbrev start-at-else2 : (c : tie.Else2) → tie.Start
+start-at-else2 c = start-at-else1 (c .before .before)
+
+abbrev else1-at-sized : (c : tie.After-sized) → tie.Else1
+else1-at-sized c = c .before .before .before
+
+abbrev else1-at-then3 : (c : tie.Then3) → tie.Else1
+else1-at-then3 c = else1-at-sized (c .before .before)
+
+abbrev else2-at-judge-records : (c : tie.After-judge-records) → tie.Else2
+else2-at-judge-records c = else2-at-else4 (c .before)
+
+abbrev else1-at-then4 : (c : tie.Then4) → tie.Else1
+else1-at-then4 c = else1-at-sized (c .before .before .before)
+
+abbrev else1-at-judge-records : (c : tie.After-judge-records) → tie.Else1
+else1-at-judge-records c = (else2-at-judge-records c) .before .before
+
+abbrev start-at-else3 : (c : tie.Else3) → tie.Start
+start-at-else3 c = start-at-else2 (else2-at-else3 c)
+
+abbrev start-at-else4 : (c : tie.Else4) → tie.Start
+start-at-else4 c = start-at-else3 (c .before)
+
+-- ---- the answers
+
 is-headed : (c : tie.Else1) → headed (now (c .before .before .before .args .file)) ≡ true
 is-headed c = sym (c .before .headed .ensures) ∙ not-false _ (c .if1 .left)
 
-is-counted : (c : tie.Else2) → counted (now (c .before .before .before .before .before .args .file)) ≡ true
+is-counted : (c : tie.Else2) → counted (now ((start-at-else2 c) .args .file)) ≡ true
 is-counted c = sym (c .before .counted .ensures) ∙ not-false _ (c .if2 .left)
 
-is-sized : (c : tie.Else3) → sized (now (c .before .before .before .before .before .before .before .before .args .file)) ≡ true
+is-sized : (c : tie.Else3) → sized (now ((start-at-else3 c) .args .file)) ≡ true
 is-sized c = sym (c .before .before .sized .ensures) ∙ not-false _ (c .if3 .left)
 
-is-ranged : (c : tie.Else4) → ranged (now (c .before .before .before .before .before .before .before .before .before .args .file)) ≡ true
+is-ranged : (c : tie.Else4) → ranged (now ((start-at-else4 c) .args .file)) ≡ true
 is-ranged c = sym (c .before .before .ranged .ensures) ∙ not-false _ (c .if4 .left)
-
-headed-requires : tie.Need-headed-requires
-headed-requires c κs = search needs
 
 returns : tie.Need-returns
 returns c = at-header _ (sym (c .before .headed .ensures) ∙ not-true _ (c .if1 .taken))
@@ -43,26 +80,26 @@ ranged-requires c κs = headed-length _ (is-headed (c .before .before .before))
 returns-3 : tie.Need-returns-3
 returns-3 c =
     at-length _
-    (is-headed (c .before .before .before .before .before))
+    (is-headed (else1-at-then3 c))
     (is-counted (c .before .before .before))
     (sym (c .before .before .sized .ensures) ∙ not-true _ (c .if3 .taken))
 
 returns-4 : tie.Need-returns-4
 returns-4 c =
     at-ranges _
-    (is-headed (c .before .before .before .before .before .before))
-    (is-counted (c .before .before .before .before))
+    (is-headed (else1-at-then4 c))
+    (is-counted (else2-at-then4 c))
     (is-sized (c .before))
     (sym (c .before .before .ranged .ensures) ∙ not-true _ (c .if4 .taken))
 
 judge-records-requires : tie.Need-judge-records-requires
-judge-records-requires c κs = (is-counted (c .before .before .before .before), is-sized (c .before))
+judge-records-requires c κs = (is-counted (else2-at-else4 c), is-sized (c .before))
 
 returns-5 : tie.Need-returns-5
 returns-5 c =
     at-records _ (c .judge-records .result)
-    (is-headed (c .before .before .before .before .before .before .before))
-    (is-counted (c .before .before .before .before .before))
+    (is-headed (else1-at-judge-records c))
+    (is-counted (else2-at-judge-records c))
     (is-sized (c .before .before))
     (is-ranged (c .before))
     (c .judge-records .ensures)
@@ -71,7 +108,7 @@ pub judge-spec : {M : Type 1} → statement M
 judge-spec =
     tie.close
     (tie.spec
-    headed-requires
+    (λ c κs. search needs)
     returns
     counted-requires
     returns-2

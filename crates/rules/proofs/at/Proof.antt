@@ -6,13 +6,10 @@ use borrow.Author.Needs.{needs}
 use Rattle.rules.proofs.at.Statement.{statement}
 use Rattle.rules.proofs.at.Tie as tie
 
-setup-at-requires : tie.Need-setup-at-requires
-setup-at-requires c κs = search needs
-
 returns : tie.Need-returns
 returns c =
     let k = c .before .before in
     toZ-ofZ (search needs) ∙ c .before .setup-at .ensures ∙ ap₂ _-ℤ_ (toZ-ofZ (k .fits .base)) (toZ-ofZ (k .fits .period))
 
 pub at-spec : {M : Type 1} → statement M
-at-spec = tie.close (tie.spec setup-at-requires returns)
+at-spec = tie.close (tie.spec (λ c κs. search needs) returns)

@@ -27,8 +27,11 @@ abbrev μ-loop : tie.MeasureT-loop
 μ-loop tail head amount n m p row marks s v₀ sum₀ k₀ v sum k = suc n - k
 
 -- the places that are spoken of, each from the one after it
+abbrev start-at-shared-slice-known3 : (c : tie.After-shared-slice-known3 Inv-loop μ-loop) → tie.Start Inv-loop μ-loop
+start-at-shared-slice-known3 c = c .before .before .before
+
 abbrev begun : (c : tie.After-shared-slice-known4 Inv-loop μ-loop) → tie.Start Inv-loop μ-loop
-begun c = c .before .before .before .before
+begun c = start-at-shared-slice-known3 (c .before)
 
 abbrev entry : (c : tie.At-loop Inv-loop μ-loop) → tie.Start Inv-loop μ-loop
 entry c = begun (c .before)

@@ -11,18 +11,6 @@ use Rattle.skew_c.proofs.skew_question.Tie as tie
 abbrev asked-at : tie.After-yes-of → tie.After-question
 asked-at c = c .before .before .before
 
-question-requires : tie.Need-question-requires
-question-requires c κs = search needs
-
-reply-number-requires : tie.Need-reply-number-requires
-reply-number-requires c κs = search needs
-
-reply-place-requires : tie.Need-reply-place-requires
-reply-place-requires c κs = search needs
-
-yes-of-requires : tie.Need-yes-of-requires
-yes-of-requires c κs = search needs
-
 pack-requires : tie.Need-pack-requires
 pack-requires c κs =
     let p = c .before .reply-place .ensures in
@@ -46,9 +34,9 @@ pub skew-question-spec : {M : Type 1} → statement M
 skew-question-spec =
     tie.close
     (tie.spec
-    question-requires
-    reply-number-requires
-    reply-place-requires
-    yes-of-requires
+    (λ c κs. search needs)
+    (λ c κs. search needs)
+    (λ c κs. search needs)
+    (λ c κs. search needs)
     pack-requires
     returns)

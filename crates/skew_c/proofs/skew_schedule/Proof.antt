@@ -7,26 +7,17 @@ use Rattle.skew_c.proofs.skew_schedule.Statement.{statement}
 use Rattle.skew_c.proofs.skew_schedule.Tie as tie
 
 -- what the scheduler returned, behind the outcome's place
-abbrev scheduled-at : tie.After-outcome-place → tie.After-schedule
-scheduled-at c = c .before .before .before .before
+abbrev schedule-at-outcome-number : (c : tie.After-outcome-number) → tie.After-schedule
+schedule-at-outcome-number c = c .before .before .before
 
-schedule-requires : tie.Need-schedule-requires
-schedule-requires c κs = search needs
-
-outcome-number-requires : tie.Need-outcome-number-requires
-outcome-number-requires c κs = search needs
-
-outcome-place-requires : tie.Need-outcome-place-requires
-outcome-place-requires c κs = search needs
+abbrev scheduled-at : (c : tie.After-outcome-place) → tie.After-schedule
+scheduled-at c = schedule-at-outcome-number (c .before)
 
 pack-requires : tie.Need-pack-requires
 pack-requires c κs =
     let e = c .outcome-place .ensures in
     let h = outcome-below _ (scheduled-at c .schedule .ensures) in
     (omega arith, omega arith)
-
-same-length : tie.Need-same-length
-same-length c = search needs
 
 returns : tie.Need-returns
 returns c =
@@ -39,9 +30,9 @@ pub skew-schedule-spec : {M : Type 1} → statement M
 skew-schedule-spec =
     tie.close
     (tie.spec
-    schedule-requires
-    outcome-number-requires
-    outcome-place-requires
+    (λ c κs. search needs)
+    (λ c κs. search needs)
+    (λ c κs. search needs)
     pack-requires
-    same-length
+    (λ c. search needs)
     returns)

@@ -38,9 +38,6 @@ returns c =
     let f = c .before .fits .z in
     rw (toZ-ofZ f, toZ-ofZ (widens f), toZ-ofZ (turned-fits _ f)) (turned _ f (is-below c) .is)
 
-returns-2 : tie.Need-returns-2
-returns-2 c = search needs
-
 pub magnitude-spec : {M : Type 1} → statement M
 magnitude-spec =
-    tie.close (tie.spec cast-result sub-result cast-result-2 cast-result-3 returns returns-2)
+    tie.close (tie.spec cast-result sub-result cast-result-2 cast-result-3 returns (λ c. search needs))

@@ -11,12 +11,6 @@ use Rattle.whole.proofs.Rounding.{Minus, minus-is}
 use Rattle.whole.proofs.negative.Statement.{statement}
 use Rattle.whole.proofs.negative.Tie as tie
 
-sub-result : tie.Need-sub-result
-sub-result c = search needs
-
-cast-result : tie.Need-cast-result
-cast-result c = search needs
-
 read-less : (c : tie.Else1) → toZ w64 (c .before .args .q - 1) ≡ pos (c .before .args .q - 1)
 read-less c = let h = c .before .pre in toZ-pos w64 (omega (arith, c .if1 .left))
 
@@ -33,4 +27,4 @@ returns-2 : tie.Need-returns-2
 returns-2 c = rw (read-less c) (toZ-ofZ (less c .fits) ∙ less c .is)
 
 pub negative-spec : {M : Type 1} → statement M
-negative-spec = tie.close (tie.spec sub-result cast-result sub-result-2 returns returns-2)
+negative-spec = tie.close (tie.spec (λ c. search needs) (λ c. search needs) sub-result-2 returns returns-2)

@@ -5,15 +5,9 @@ use borrow.Author.Needs.{needs}
 use Rattle.whole.proofs.number.Statement.{statement}
 use Rattle.whole.proofs.number.Tie as tie
 
-word-requires : tie.Need-word-requires
-word-requires c κs = search needs
-
-signed-requires : tie.Need-signed-requires
-signed-requires c κs = search needs
-
 returns : tie.Need-returns
 unfolding numberAt
 returns c = toZ-ofZ (search needs) ∙ c .signed .ensures ∙ ap signedOf (c .before .word .ensures)
 
 pub number-spec : {M : Type 1} → statement M
-number-spec = tie.close (tie.spec word-requires signed-requires returns)
+number-spec = tie.close (tie.spec (λ c κs. search needs) (λ c κs. search needs) returns)

@@ -9,22 +9,23 @@ use borrow.Author.Needs.{needs}
 use Rattle.whole.proofs.put_number.Statement.{statement}
 use Rattle.whole.proofs.put_number.Tie as tie
 
-unsigned-requires : tie.Need-unsigned-requires
-unsigned-requires c κs = search needs
+-- ---- the places
 
-put-word-requires : tie.Need-put-word-requires
-put-word-requires c κs = search needs
+abbrev start-at-unsigned : (c : tie.After-unsigned) → tie.Start
+start-at-unsigned c = c .before .before .before
 
-same-length : tie.Need-same-length
-same-length c = search needs
+abbrev start-at-slice-known2 : (c : tie.After-slice-known2) → tie.Start
+start-at-slice-known2 c = start-at-unsigned (c .before .before .before)
+
+-- ---- the answers
 
 returns : tie.Need-returns
 unfolding four
 returns c =
-    let a = c .before .before .before .before .before .before .args in
+    let a = (start-at-slice-known2 c) .args in
     c .before .before .put-word .ensures
     ∙ ap (λ (u : ℕ). sets (now (a .out)) (a .at) (bytesOf u)) (c .before .before .before .unsigned .ensures)
-    ∙ ap (λ (z : ℤ). sets (now (a .out)) (a .at) (four z)) (toZ-ofZ (c .before .before .before .before .before .before .fits .z))
+    ∙ ap (λ (z : ℤ). sets (now (a .out)) (a .at) (four z)) (toZ-ofZ ((start-at-slice-known2 c) .fits .z))
 
 pub put-number-spec : {M : Type 1} → statement M
-put-number-spec = tie.close (tie.spec unsigned-requires put-word-requires same-length returns)
+put-number-spec = tie.close (tie.spec (λ c κs. search needs) (λ c κs. search needs) (λ c. search needs) returns)

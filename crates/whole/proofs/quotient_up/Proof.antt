@@ -7,12 +7,6 @@ use Rattle.whole.proofs.Rounding.{up-none, up-some}
 use Rattle.whole.proofs.quotient_up.Statement.{statement}
 use Rattle.whole.proofs.quotient_up.Tie as tie
 
-sub-result : tie.Need-sub-result
-sub-result c = search needs
-
-div-result : tie.Need-div-result
-div-result c = search needs
-
 add-result : tie.Need-add-result
 add-result c = let a = c .before .args in omega (arith, div-le-self (a .n - 1) (a .k), c .before .fits .n .fits)
 
@@ -23,4 +17,4 @@ returns-2 : tie.Need-returns-2
 returns-2 c = up-some _ _ (c .before .pre) (omega (arith, c .if1 .left))
 
 pub quotient-up-spec : {M : Type 1} → statement M
-quotient-up-spec = tie.close (tie.spec sub-result div-result add-result returns returns-2)
+quotient-up-spec = tie.close (tie.spec (λ c. search needs) (λ c. search needs) add-result returns returns-2)

@@ -22,9 +22,6 @@ down c = let f = c .before .fits .z in up-below-zero _ f (omega lin)
 cast-quotient-up : tie.Need-cast-quotient-up
 cast-quotient-up c = rw (toZ-ofZ (c .before .fits .z)) (up c .not-negative, record { fits = omega (arith, up c .few) })
 
-quotient-up-requires : tie.Need-quotient-up-requires
-quotient-up-requires c κs = search needs
-
 -- the quotient is no greater than z, so it fits
 cast-result : tie.Need-cast-result
 cast-result c =
@@ -42,9 +39,6 @@ cast-less c =
 
 add-negative : tie.Need-add-negative
 add-negative c = rw (toZ-ofZ (c .before .fits .z), toZ-ofZ (down c .fits)) (record { fits = omega (arith, down c .few) })
-
-div-negative : tie.Need-div-negative
-div-negative c = search needs
 
 negative-requires : tie.Need-negative-requires
 negative-requires c κs =
@@ -70,12 +64,12 @@ round-up-spec =
     tie.close
     (tie.spec
     cast-quotient-up
-    quotient-up-requires
+    (λ c κs. search needs)
     cast-result
     sub-less
     cast-less
     add-negative
-    div-negative
+    (λ c. search needs)
     negative-requires
     returns
     returns-2)

@@ -13,12 +13,6 @@ use Rattle.whole.proofs.Machine.{wide-is, less-fits, less-fits-half}
 use Rattle.whole.proofs.signed.Statement.{statement}
 use Rattle.whole.proofs.signed.Tie as tie
 
-cast-result : tie.Need-cast-result
-cast-result c = search needs
-
-cast-result-2 : tie.Need-cast-result-2
-cast-result-2 c = search needs
-
 small : (c : tie.Else1) → c .before .args .u < 4294967296
 small c = c .before .fits .u .fits
 
@@ -47,4 +41,4 @@ returns-2 c =
     )
 
 pub signed-spec : {M : Type 1} → statement M
-signed-spec = tie.close (tie.spec cast-result cast-result-2 sub-result cast-result-3 returns returns-2)
+signed-spec = tie.close (tie.spec (λ c. search needs) (λ c. search needs) sub-result cast-result-3 returns returns-2)

@@ -15,29 +15,20 @@ use Rattle.answer.proofs.record.put_entry.Tie as tie
 abbrev second : (c : tie.After-slice-known3) → tie.After-put-number2
 second c = c .before .before
 
+abbrev put-number-at-put-number-arg2 : (c : tie.After-put-number-arg2) → tie.After-put-number
+put-number-at-put-number-arg2 c = c .before .before .before
+
 abbrev first : (c : tie.After-put-number2) → tie.After-put-number
-first c = c .before .before .before .before
+first c = put-number-at-put-number-arg2 (c .before)
 
 abbrev start : (c : tie.After-put-number) → tie.Start
 start c = c .before .before .before
 
-slice-write-out : tie.Need-slice-write-out
-slice-write-out c = search needs
-
-add-out : tie.Need-add-out
-add-out c = search needs
-
 slice-write-out-2 : tie.Need-slice-write-out-2
 slice-write-out-2 c = simp length-set (omega arith)
 
-add-put-number : tie.Need-add-put-number
-add-put-number c = search needs
-
 put-number-requires : tie.Need-put-number-requires
 put-number-requires c κs = simp length-set (omega arith)
-
-add-put-number-2 : tie.Need-add-put-number-2
-add-put-number-2 c = search needs
 
 -- the first number leaves the output as long as it was
 long : (c : tie.After-put-number) → length (c .put-number .last .0) ≡ length (now (start c .args .out))
@@ -61,12 +52,12 @@ pub put-entry-spec : {M : Type 1} → statement M
 put-entry-spec =
     tie.close
     (tie.spec
-    slice-write-out
-    add-out
+    (λ c. search needs)
+    (λ c. search needs)
     slice-write-out-2
-    add-put-number
+    (λ c. search needs)
     put-number-requires
-    add-put-number-2
+    (λ c. search needs)
     put-number-requires-2
     same-length
     returns)

@@ -18,17 +18,8 @@ written c = c .before .before
 abbrev start : (c : tie.After-put-number) → tie.Start
 start c = c .before .before .before
 
-slice-write-out : tie.Need-slice-write-out
-slice-write-out c = search needs
-
-add-out : tie.Need-add-out
-add-out c = search needs
-
 slice-write-out-2 : tie.Need-slice-write-out-2
 slice-write-out-2 c = simp length-set (omega arith)
-
-add-put-number : tie.Need-add-put-number
-add-put-number c = search needs
 
 put-number-requires : tie.Need-put-number-requires
 put-number-requires c κs = simp length-set (omega arith)
@@ -45,10 +36,10 @@ pub put-latency-spec : {M : Type 1} → statement M
 put-latency-spec =
     tie.close
     (tie.spec
-    slice-write-out
-    add-out
+    (λ c. search needs)
+    (λ c. search needs)
     slice-write-out-2
-    add-put-number
+    (λ c. search needs)
     put-number-requires
     same-length
     returns)

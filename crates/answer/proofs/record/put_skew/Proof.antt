@@ -14,17 +14,20 @@ use Rattle.answer.proofs.record.put_skew.Tie as tie
 abbrev third : (c : tie.After-slice-known4) → tie.After-put-number3
 third c = c .before .before
 
+abbrev put-number2-at-put-number-arg3 : (c : tie.After-put-number-arg3) → tie.After-put-number2
+put-number2-at-put-number-arg3 c = c .before .before .before
+
 abbrev second : (c : tie.After-put-number3) → tie.After-put-number2
-second c = c .before .before .before .before
+second c = put-number2-at-put-number-arg3 (c .before)
+
+abbrev put-number-at-put-number-arg2 : (c : tie.After-put-number-arg2) → tie.After-put-number
+put-number-at-put-number-arg2 c = c .before .before .before
 
 abbrev first : (c : tie.After-put-number2) → tie.After-put-number
-first c = c .before .before .before .before
+first c = put-number-at-put-number-arg2 (c .before)
 
 abbrev start : (c : tie.After-put-number) → tie.Start
 start c = c .before .before .before
-
-slice-write-out : tie.Need-slice-write-out
-slice-write-out c = search needs
 
 slice-write-out-2 : tie.Need-slice-write-out-2
 slice-write-out-2 c = simp length-set (omega arith)
@@ -62,7 +65,7 @@ pub put-skew-spec : {M : Type 1} → statement M
 put-skew-spec =
     tie.close
     (tie.spec
-    slice-write-out
+    (λ c. search needs)
     slice-write-out-2
     put-number-requires
     put-number-requires-2

@@ -20,8 +20,11 @@ abbrev μ-loop : tie.MeasureT-loop
 
 -- ---- places: the function's entry, and the turn that a place of the loop's body belongs to
 
+abbrev start-at-shared-slice-known2 : (c : tie.After-shared-slice-known2 Inv-loop μ-loop) → tie.Start Inv-loop μ-loop
+start-at-shared-slice-known2 c = c .before .before .before
+
 abbrev start : (c : tie.At-loop Inv-loop μ-loop) → tie.Start Inv-loop μ-loop
-start c = c .before .before .before .before .before
+start c = start-at-shared-slice-known2 (c .before .before)
 
 abbrev turn-ring : (c : tie.After-shared-slice-known4 Inv-loop μ-loop) → tie.In-loop Inv-loop μ-loop
 turn-ring c = c .before

@@ -5,9 +5,6 @@ use Rattle.paper.specs.File.{headed}
 use Rattle.network.proofs.fault.headed.Statement.{statement}
 use Rattle.network.proofs.fault.headed.Tie as tie
 
-marked-requires : tie.Need-marked-requires
-marked-requires c κs = search needs
-
 returns : tie.Need-returns
 unfolding headed
 returns c = rw (le-leb _ _ (c .before .if1 .taken)) (c .marked .ensures)
@@ -17,4 +14,4 @@ unfolding headed
 returns-2 c = rw (lt-leb _ _ (c .if1 .left))
 
 pub headed-spec : {M : Type 1} → statement M
-headed-spec = tie.close (tie.spec marked-requires returns returns-2)
+headed-spec = tie.close (tie.spec (λ c κs. search needs) returns returns-2)

@@ -18,6 +18,28 @@ Inv-loop file n m p₀ at₀ p at = (at ≡ 22 + 18 * (n + p)) × ((k : ℕ) →
 abbrev μ-loop : tie.MeasureT-loop
 μ-loop file n m p₀ at₀ p at = m - p
 
+-- ---- the places
+
+abbrev at-loop-at-path-ok : (c : tie.After-path-ok Inv-loop μ-loop) → tie.At-loop Inv-loop μ-loop
+at-loop-at-path-ok c = c .before .before .before
+
+abbrev at-loop-at-then1 : (c : tie.Then1 Inv-loop μ-loop) → tie.At-loop Inv-loop μ-loop
+at-loop-at-then1 c = at-loop-at-path-ok (c .before)
+
+abbrev start-at-in-loop : (c : tie.In-loop Inv-loop μ-loop) → tie.Start Inv-loop μ-loop
+start-at-in-loop c = c .before .before .before
+
+abbrev start-at-read : (c : tie.After-read Inv-loop μ-loop) → tie.Start Inv-loop μ-loop
+start-at-read c = start-at-in-loop (c .before)
+
+abbrev at-loop-at-else1 : (c : tie.Else1 Inv-loop μ-loop) → tie.At-loop Inv-loop μ-loop
+at-loop-at-else1 c = at-loop-at-path-ok (c .before)
+
+abbrev start-at-path-ok : (c : tie.After-path-ok Inv-loop μ-loop) → tie.Start Inv-loop μ-loop
+start-at-path-ok c = start-at-read (c .before)
+
+-- ---- the answers
+
 mul-at : tie.Need-mul-at Inv-loop μ-loop
 mul-at c = omega arith
 
@@ -31,17 +53,17 @@ read-requires : tie.Need-read-requires Inv-loop μ-loop
 read-requires c κs = let e = c .before .loop .inv .0 in omega arith
 
 path-ok-requires : tie.Need-path-ok-requires Inv-loop μ-loop
-path-ok-requires c κs = c .before .before .before .before .pre .1
+path-ok-requires c κs = (start-at-read c) .pre .1
 
 -- what the test of a record says is said of path p, whose place it was read at
-tested : (c : tie.After-path-ok Inv-loop μ-loop) → c .path-ok .result ≡ pathOk (now (c .before .before .before .before .before .args .file)) (c .before .before .before .loop .p)
+tested : (c : tie.After-path-ok Inv-loop μ-loop) → c .path-ok .result ≡ pathOk (now ((start-at-path-ok c) .args .file)) (c .before .before .before .loop .p)
 tested c =
-    let k = c .before .before .before .before .before .pre .0 in
+    let k = (start-at-path-ok c) .pre .0 in
     c .path-ok .ensures _ _ k (path-there _ _ _ _ k (c .before .before .before .loop .inv .0) (c .before .read .ensures))
 
 returns : tie.Need-returns Inv-loop μ-loop
 returns c =
-    let inv = c .before .before .before .before .loop .inv in
+    let inv = (at-loop-at-then1 c) .loop .inv in
     (c .before .before .before .loop-test .taken, sym (tested (c .before)) ∙ not-true _ (c .if1 .taken), inv .1)
 
 add-p : tie.Need-add-p Inv-loop μ-loop
@@ -52,7 +74,7 @@ loop-less c = omega arith
 
 loop-again : tie.Need-loop-again Inv-loop μ-loop
 loop-again c =
-    let inv = c .before .before .before .before .loop .inv in
+    let inv = (at-loop-at-else1 c) .loop .inv in
     let e = inv .0 in
     let next = c .before .before .read .ensures .next in
     (omega arith, below-more _ _ (inv .1) (sym (tested (c .before)) ∙ not-false _ (c .if1 .left)))

@@ -7,39 +7,40 @@ use Rattle.network.proofs.Joined.{path-joined}
 use Rattle.network.proofs.fault.path_ok.Statement.{statement}
 use Rattle.network.proofs.fault.path_ok.Tie as tie
 
-both-requires : tie.Need-both-requires
-both-requires c κs = search needs
+-- ---- the places
 
-named-requires : tie.Need-named-requires
-named-requires c κs = search needs
+abbrev from-zero-at-within : (c : tie.After-within) → tie.After-from-zero
+from-zero-at-within c = c .before .before .before
 
-named-requires-2 : tie.Need-named-requires-2
-named-requires-2 c κs = search needs
+abbrev from-zero-at-all32 : (c : tie.After-all32) → tie.After-from-zero
+from-zero-at-all32 c = from-zero-at-within (c .before .before)
 
-from-zero-requires : tie.Need-from-zero-requires
-from-zero-requires c κs = search needs
+abbrev named2-at-all32 : (c : tie.After-all32) → tie.After-named2
+named2-at-all32 c = (from-zero-at-all32 c) .before .before
 
-within-requires : tie.Need-within-requires
-within-requires c κs = search needs
+abbrev named-at-all32 : (c : tie.After-all32) → tie.After-named
+named-at-all32 c = (named2-at-all32 c) .before .before
 
-all3-requires : tie.Need-all3-requires
-all3-requires c κs = search needs
+abbrev both-at-all32 : (c : tie.After-all32) → tie.After-both
+both-at-all32 c = (named-at-all32 c) .before .before
 
-all3-requires-2 : tie.Need-all3-requires-2
-all3-requires-2 c κs = search needs
+abbrev start-at-all32 : (c : tie.After-all32) → tie.Start
+start-at-all32 c = (both-at-all32 c) .before .before .before
+
+-- ---- the answers
 
 returns : tie.Need-returns
 returns c =
-    let r = c .before .before .before .before .before .before .before .before .before .before .before .before .before .before .args .r in
+    let r = (start-at-all32 c) .args .r in
     let a : SFits w32 (r .first) = search needs in
     let b : SFits w32 (r .second) = search needs in
     let d : SFits w32 (r .third) = search needs in
     let e : SFits w32 (r .fourth) = search needs in
     λ f p n s. path-joined f _ p r n s
-    (c .before .before .before .before .before .before .before .before .before .before .before .both .ensures)
-    (rw (toZ-ofZ a) at (c .before .before .before .before .before .before .before .before .before .named .ensures))
-    (rw (toZ-ofZ b) at (c .before .before .before .before .before .before .before .named2 .ensures))
-    (rw (toZ-ofZ d) at (c .before .before .before .before .before .from-zero .ensures))
+    ((both-at-all32 c) .both .ensures)
+    (rw (toZ-ofZ a) at ((named-at-all32 c) .named .ensures))
+    (rw (toZ-ofZ b) at ((named2-at-all32 c) .named2 .ensures))
+    (rw (toZ-ofZ d) at ((from-zero-at-all32 c) .from-zero .ensures))
     (rw (toZ-ofZ d, toZ-ofZ e) at (c .before .before .within .ensures))
     (c .before .all3 .ensures)
     (c .all32 .ensures)
@@ -48,11 +49,11 @@ pub path-ok-spec : {M : Type 1} → statement M
 path-ok-spec =
     tie.close
     (tie.spec
-    both-requires
-    named-requires
-    named-requires-2
-    from-zero-requires
-    within-requires
-    all3-requires
-    all3-requires-2
+    (λ c κs. search needs)
+    (λ c κs. search needs)
+    (λ c κs. search needs)
+    (λ c κs. search needs)
+    (λ c κs. search needs)
+    (λ c κs. search needs)
+    (λ c κs. search needs)
     returns)

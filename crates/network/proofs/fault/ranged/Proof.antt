@@ -4,18 +4,6 @@ use Rattle.network.proofs.Joined.{ranged-joined}
 use Rattle.network.proofs.fault.ranged.Statement.{statement}
 use Rattle.network.proofs.fault.ranged.Tie as tie
 
-within-at-requires : tie.Need-within-at-requires
-within-at-requires c κs = search needs
-
-rising-requires : tie.Need-rising-requires
-rising-requires c κs = search needs
-
-within-at-requires-2 : tie.Need-within-at-requires-2
-within-at-requires-2 c κs = search needs
-
-all3-requires : tie.Need-all3-requires
-all3-requires c κs = search needs
-
 returns : tie.Need-returns
 returns c =
     ranged-joined _
@@ -26,4 +14,4 @@ returns c =
 
 pub ranged-spec : {M : Type 1} → statement M
 ranged-spec =
-    tie.close (tie.spec within-at-requires rising-requires within-at-requires-2 all3-requires returns)
+    tie.close (tie.spec (λ c κs. search needs) (λ c κs. search needs) (λ c κs. search needs) (λ c κs. search needs) returns)

@@ -7,35 +7,36 @@ use Rattle.network.proofs.Joined.{register-joined}
 use Rattle.network.proofs.fault.register_ok.Statement.{statement}
 use Rattle.network.proofs.fault.register_ok.Tie as tie
 
-both-requires : tie.Need-both-requires
-both-requires c κs = search needs
+-- ---- the places
 
-within-requires : tie.Need-within-requires
-within-requires c κs = search needs
+abbrev within2-at-windowed : (c : tie.After-windowed) → tie.After-within2
+within2-at-windowed c = c .before .before .before
 
-within-requires-2 : tie.Need-within-requires-2
-within-requires-2 c κs = search needs
+abbrev within2-at-both2 : (c : tie.After-both2) → tie.After-within2
+within2-at-both2 c = within2-at-windowed (c .before .before)
 
-windowed-requires : tie.Need-windowed-requires
-windowed-requires c κs = search needs
+abbrev within-at-both2 : (c : tie.After-both2) → tie.After-within
+within-at-both2 c = (within2-at-both2 c) .before .before
 
-all3-requires : tie.Need-all3-requires
-all3-requires c κs = search needs
+abbrev both-at-both2 : (c : tie.After-both2) → tie.After-both
+both-at-both2 c = (within-at-both2 c) .before .before
 
-both-requires-2 : tie.Need-both-requires-2
-both-requires-2 c κs = search needs
+abbrev start-at-both2 : (c : tie.After-both2) → tie.Start
+start-at-both2 c = (both-at-both2 c) .before .before .before
+
+-- ---- the answers
 
 returns : tie.Need-returns
 returns c =
-    let r = c .before .before .before .before .before .before .before .before .before .before .before .before .args .r in
+    let r = (start-at-both2 c) .args .r in
     let a : SFits w32 (r .first) = search needs in
     let b : SFits w32 (r .second) = search needs in
     let d : SFits w32 (r .third) = search needs in
     let e : SFits w32 (r .fourth) = search needs in
     λ f s. register-joined f _ r s
-    (c .before .before .before .before .before .before .before .before .before .both .ensures)
-    (rw (toZ-ofZ a) at (c .before .before .before .before .before .before .before .within .ensures))
-    (rw (toZ-ofZ b) at (c .before .before .before .before .before .within2 .ensures))
+    ((both-at-both2 c) .both .ensures)
+    (rw (toZ-ofZ a) at ((within-at-both2 c) .within .ensures))
+    (rw (toZ-ofZ b) at ((within2-at-both2 c) .within2 .ensures))
     (rw (toZ-ofZ d, toZ-ofZ e) at (c .before .before .windowed .ensures))
     (c .before .all3 .ensures)
     (c .both2 .ensures)
@@ -44,10 +45,10 @@ pub register-ok-spec : {M : Type 1} → statement M
 register-ok-spec =
     tie.close
     (tie.spec
-    both-requires
-    within-requires
-    within-requires-2
-    windowed-requires
-    all3-requires
-    both-requires-2
+    (λ c κs. search needs)
+    (λ c κs. search needs)
+    (λ c κs. search needs)
+    (λ c κs. search needs)
+    (λ c κs. search needs)
+    (λ c κs. search needs)
     returns)

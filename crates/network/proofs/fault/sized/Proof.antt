@@ -6,12 +6,6 @@ use Rattle.network.proofs.Joined.{sized-joined}
 use Rattle.network.proofs.fault.sized.Statement.{statement}
 use Rattle.network.proofs.fault.sized.Tie as tie
 
-count-requires : tie.Need-count-requires
-count-requires c κs = search needs
-
-count-requires-2 : tie.Need-count-requires-2
-count-requires-2 c κs = search needs
-
 add-result : tie.Need-add-result
 add-result c = let s = counts-to _ (c .before .before .before .pre .1) in omega arith
 
@@ -26,4 +20,4 @@ returns c = sized-joined _ _ _ (c .before .count .ensures) (c .count2 .ensures)
 
 pub sized-spec : {M : Type 1} → statement M
 sized-spec =
-    tie.close (tie.spec count-requires count-requires-2 add-result mul-result add-result-2 returns)
+    tie.close (tie.spec (λ c κs. search needs) (λ c κs. search needs) add-result mul-result add-result-2 returns)

@@ -5,14 +5,8 @@ use borrow.Author.Needs.{needs}
 use Rattle.network.proofs.field.all3.Statement.{statement}
 use Rattle.network.proofs.field.all3.Tie as tie
 
-both-requires : tie.Need-both-requires
-both-requires c κs = search needs
-
-both-requires-2 : tie.Need-both-requires-2
-both-requires-2 c κs = search needs
-
 returns : tie.Need-returns
 returns c = c .both2 .ensures ∙ ap (λ (t : Bool). t && c .before .before .args .c) (c .before .both .ensures)
 
 pub all3-spec : {M : Type 1} → statement M
-all3-spec = tie.close (tie.spec both-requires both-requires-2 returns)
+all3-spec = tie.close (tie.spec (λ c κs. search needs) (λ c κs. search needs) returns)

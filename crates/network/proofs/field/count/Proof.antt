@@ -8,16 +8,10 @@ use Rattle.network.proofs.Tests.{read-is}
 use Rattle.network.proofs.field.count.Statement.{statement}
 use Rattle.network.proofs.field.count.Tie as tie
 
-number-requires : tie.Need-number-requires
-number-requires c κs = search needs
-
-natural-requires : tie.Need-natural-requires
-natural-requires c κs = search needs
-
 returns : tie.Need-returns
 returns c =
     let f : SFits w32 (c .before .number .result) = search needs in
     c .natural .ensures ∙ ap natural (read-is f (c .before .number .ensures))
 
 pub count-spec : {M : Type 1} → statement M
-count-spec = tie.close (tie.spec number-requires natural-requires returns)
+count-spec = tie.close (tie.spec (λ c κs. search needs) (λ c κs. search needs) returns)

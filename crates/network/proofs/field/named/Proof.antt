@@ -7,16 +7,10 @@ use Rattle.network.proofs.Tests.{within-same}
 use Rattle.network.proofs.field.named.Statement.{statement}
 use Rattle.network.proofs.field.named.Tie as tie
 
-cast-within : tie.Need-cast-within
-cast-within c = search needs
-
 sub-within : tie.Need-sub-within
 sub-within c =
     let h = c .pre in
     rw (small-read _ h) (last-fits _ h)
-
-within-requires : tie.Need-within-requires
-within-requires c κs = search needs
 
 returns : tie.Need-returns
 returns c =
@@ -24,4 +18,4 @@ returns c =
     c .within .ensures ∙ within-same refl (last-read _ h) (toZ-ofZ (c .before .fits .z))
 
 pub named-spec : {M : Type 1} → statement M
-named-spec = tie.close (tie.spec cast-within sub-within within-requires returns)
+named-spec = tie.close (tie.spec (λ c. search needs) sub-within (λ c κs. search needs) returns)

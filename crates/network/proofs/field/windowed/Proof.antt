@@ -6,27 +6,25 @@ use Rattle.network.proofs.Tests.{within-same, windowed-host, windowed-o
 use Rattle.network.proofs.field.windowed.Statement.{statement}
 use Rattle.network.proofs.field.windowed.Tie as tie
 
-within-requires : tie.Need-within-requires
-within-requires c κs = search needs
+-- ---- the places
 
-within-requires-2 : tie.Need-within-requires-2
-within-requires-2 c κs = search needs
+abbrev start-at-within2 : (c : tie.After-within2) → tie.Start
+start-at-within2 c = c .before .before .before
 
-both-requires : tie.Need-both-requires
-both-requires c κs = search needs
+abbrev start-at-both : (c : tie.After-both) → tie.Start
+start-at-both c = start-at-within2 (c .before)
 
-within-requires-3 : tie.Need-within-requires-3
-within-requires-3 c κs = search needs
+abbrev start-at-within4 : (c : tie.After-within4) → tie.Start
+start-at-within4 c = c .before .before .before
 
-within-requires-4 : tie.Need-within-requires-4
-within-requires-4 c κs = search needs
+abbrev start-at-both2 : (c : tie.After-both2) → tie.Start
+start-at-both2 c = start-at-within4 (c .before)
 
-both-requires-2 : tie.Need-both-requires-2
-both-requires-2 c κs = search needs
+-- ---- the answers
 
 returns : tie.Need-returns
 returns c =
-    let f = c .before .before .before .before .fits in
+    let f = (start-at-both c) .fits in
     windowed-host _ _ _
     (c .before .before .before .if1 .taken)
     (c .before .before .within .ensures ∙ within-same refl refl (toZ-ofZ (f .low)))
@@ -35,7 +33,7 @@ returns c =
 
 returns-2 : tie.Need-returns-2
 returns-2 c =
-    let f = c .before .before .before .before .fits in
+    let f = (start-at-both2 c) .fits in
     windowed-other _ _ _
     (c .before .before .before .if1 .left)
     (c .before .before .within3 .ensures ∙ within-same refl refl (toZ-ofZ (f .low)))
@@ -46,11 +44,11 @@ pub windowed-spec : {M : Type 1} → statement M
 windowed-spec =
     tie.close
     (tie.spec
-    within-requires
-    within-requires-2
-    both-requires
-    within-requires-3
-    within-requires-4
-    both-requires-2
+    (λ c κs. search needs)
+    (λ c κs. search needs)
+    (λ c κs. search needs)
+    (λ c κs. search needs)
+    (λ c κs. search needs)
+    (λ c κs. search needs)
     returns
     returns-2)

@@ -8,12 +8,6 @@ use Rattle.network.proofs.Tests.{read-is, within-same}
 use Rattle.network.proofs.field.within_at.Statement.{statement}
 use Rattle.network.proofs.field.within_at.Tie as tie
 
-number-requires : tie.Need-number-requires
-number-requires c κs = search needs
-
-within-requires : tie.Need-within-requires
-within-requires c κs = search needs
-
 returns : tie.Need-returns
 returns c =
     let f = c .before .before .before .fits in
@@ -22,4 +16,4 @@ returns c =
     ∙ within-same (toZ-ofZ (f .low)) (toZ-ofZ (f .high)) (read-is g (c .before .number .ensures))
 
 pub within-at-spec : {M : Type 1} → statement M
-within-at-spec = tie.close (tie.spec number-requires within-requires returns)
+within-at-spec = tie.close (tie.spec (λ c κs. search needs) (λ c κs. search needs) returns)

@@ -10,6 +10,19 @@ use Rattle.network.proofs.Places.{header-inside, floor-is, ceiling-is}
 use Rattle.network.proofs.read.header.Statement.{statement}
 use Rattle.network.proofs.read.header.Tie as tie
 
+-- ---- the places
+
+abbrev start-at-count2 : (c : tie.After-count2) → tie.Start
+start-at-count2 c = c .before .before .before
+
+abbrev start-at-number : (c : tie.After-number) → tie.Start
+start-at-number c = start-at-count2 (c .before)
+
+abbrev start-at-number2 : (c : tie.After-number2) → tie.Start
+start-at-number2 c = start-at-number (c .before)
+
+-- ---- the answers
+
 count-requires : tie.Need-count-requires
 count-requires c κs = let l = header-inside _ (c .before .pre) in omega arith
 
@@ -20,14 +33,14 @@ number-requires : tie.Need-number-requires
 number-requires c κs = let l = header-inside _ (c .before .before .before .pre) in omega arith
 
 number-requires-2 : tie.Need-number-requires-2
-number-requires-2 c κs = let l = header-inside _ (c .before .before .before .before .pre) in omega arith
+number-requires-2 c κs = let l = header-inside _ ((start-at-number c) .pre) in omega arith
 
 returns : tie.Need-returns
 unfolding networkOf
 returns c =
     let f : SFits w32 (c .before .number .result) = search needs in
     let g : SFits w32 (c .number2 .result) = search needs in
-    let a = c .before .before .before .before .before .pre in
+    let a = (start-at-number2 c) .pre in
     record {
       registers = c .before .before .before .count .ensures;
       paths = c .before .before .count2 .ensures;

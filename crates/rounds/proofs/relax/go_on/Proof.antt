@@ -22,20 +22,38 @@ abbrev μ-loop : tie.MeasureT-loop
 μ-loop tail head amount n m from a₀ b₀ p₀ out₀ entries₀ rounds₀ start₀ a b p out entries rounds start = gap (arrows n m tail head amount) 16777216 a
 
 -- the places that are spoken of, each from the one after it
+abbrev start-at-slice-known : (c : tie.After-slice-known Inv-loop μ-loop) → tie.Start Inv-loop μ-loop
+start-at-slice-known c = c .before .before .before
+
 abbrev begun : (c : tie.After-slice-known2 Inv-loop μ-loop) → tie.Start Inv-loop μ-loop
-begun c = c .before .before .before .before
+begun c = start-at-slice-known (c .before)
+
+abbrev at-loop-at-turn-arg2 : (c : tie.After-turn-arg2 Inv-loop μ-loop) → tie.At-loop Inv-loop μ-loop
+at-loop-at-turn-arg2 c = c .before .before .before
 
 abbrev here : (c : tie.After-turn-arg5 Inv-loop μ-loop) → tie.At-loop Inv-loop μ-loop
-here c = c .before .before .before .before .before .before
+here c = at-loop-at-turn-arg2 (c .before .before .before)
+
+abbrev turn-at-slice-known3 : (c : tie.After-slice-known3 Inv-loop μ-loop) → tie.After-turn Inv-loop μ-loop
+turn-at-slice-known3 c = c .before .before .before
 
 abbrev there : (c : tie.After-slice-known4 Inv-loop μ-loop) → tie.After-turn Inv-loop μ-loop
-there c = c .before .before .before .before .before
+there c = turn-at-slice-known3 (c .before .before)
+
+abbrev else1-at-turn-arg6 : (c : tie.After-turn-arg6 Inv-loop μ-loop) → tie.Else1 Inv-loop μ-loop
+else1-at-turn-arg6 c = c .before .before .before
+
+abbrev else1-at-turn-arg9 : (c : tie.After-turn-arg9 Inv-loop μ-loop) → tie.Else1 Inv-loop μ-loop
+else1-at-turn-arg9 c = else1-at-turn-arg6 (c .before .before .before)
 
 abbrev between : (c : tie.After-turn-arg10 Inv-loop μ-loop) → tie.Else1 Inv-loop μ-loop
-between c = c .before .before .before .before .before .before .before
+between c = else1-at-turn-arg9 (c .before)
+
+abbrev turn2-at-slice-known5 : (c : tie.After-slice-known5 Inv-loop μ-loop) → tie.After-turn2 Inv-loop μ-loop
+turn2-at-slice-known5 c = c .before .before .before
 
 abbrev back : (c : tie.After-slice-known6 Inv-loop μ-loop) → tie.After-turn2 Inv-loop μ-loop
-back c = c .before .before .before .before .before
+back c = turn2-at-slice-known5 (c .before .before)
 
 -- the arrows of a place's arguments
 abbrev Γ : (k : tie.Start Inv-loop μ-loop) → Arrows

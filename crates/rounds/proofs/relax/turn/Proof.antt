@@ -6,8 +6,11 @@ use Rattle.rounds.proofs.relax.turn.Statement.{statement}
 use Rattle.rounds.proofs.relax.turn.Tie as tie
 
 -- the places that are spoken of, each from the one after it
+abbrev start-at-slice-known : (c : tie.After-slice-known) → tie.Start
+start-at-slice-known c = c .before .before .before
+
 abbrev entry : (c : tie.After-turn-round-arg2) → tie.Start
-entry c = c .before .before .before .before .before .before
+entry c = start-at-slice-known (c .before .before .before)
 
 abbrev round : (c : tie.After-slice-known3) → tie.After-turn-round
 round c = c .before .before .before
@@ -30,12 +33,6 @@ turn-round-requires c κs =
     let r = s .resumes .ready in
     (s .shape, ((ready-row _ (s .shape) _ _ r, s .spare, r .tight .forest .preds-length), (s .resumes .within, s .resumes .met)))
 
-same-length : tie.Need-same-length
-same-length c = search needs
-
-same-length-2 : tie.Need-same-length-2
-same-length-2 c = search needs
-
 returns : tie.Need-returns
 returns c =
     let t = round (c .before) in
@@ -54,12 +51,6 @@ settle-requires c κs =
       row-long = after-row-long _ (s .shape) _ _ r _ _ _ is;
       fair = after-fair _ (s .shape) _ _ r _ _ _ is;
     }
-
-same-length-3 : tie.Need-same-length-3
-same-length-3 c = search needs
-
-same-length-4 : tie.Need-same-length-4
-same-length-4 c = search needs
 
 returns-2 : tie.Need-returns-2
 returns-2 c =
@@ -80,15 +71,6 @@ show-requires c κs =
     let below = stray c .if2 .left in
     (k .0 .shape, (after-preds-long _ (k .0 .shape) _ _ r _ _ _ is, k .1, below, after-unrooted _ (k .0 .shape) _ _ r _ _ _ is _ _ (z .settle .ensures) below))
 
-same-length-5 : tie.Need-same-length-5
-same-length-5 c = search needs
-
-same-length-6 : tie.Need-same-length-6
-same-length-6 c = search needs
-
-same-length-7 : tie.Need-same-length-7
-same-length-7 c = search needs
-
 returns-3 : tie.Need-returns-3
 returns-3 c =
     let w = stray (show c .before) in
@@ -102,15 +84,15 @@ turn-spec =
     tie.close
     (tie.spec
     turn-round-requires
-    same-length
-    same-length-2
+    (λ c. search needs)
+    (λ c. search needs)
     returns
     settle-requires
-    same-length-3
-    same-length-4
+    (λ c. search needs)
+    (λ c. search needs)
     returns-2
     show-requires
-    same-length-5
-    same-length-6
-    same-length-7
+    (λ c. search needs)
+    (λ c. search needs)
+    (λ c. search needs)
     returns-3)

@@ -21,8 +21,11 @@ use Rattle.rounds.proofs.round.lift.Statement.{statement}
 use Rattle.rounds.proofs.round.lift.Tie as tie
 
 -- the places that are spoken of, each from the one after it
+abbrev start-at-slice-known : (c : tie.After-slice-known) → tie.Start
+start-at-slice-known c = c .before .before .before
+
 abbrev read : (c : tie.After-shared-slice-known3) → tie.Start
-read c = c .before .before .before .before
+read c = start-at-slice-known (c .before)
 
 abbrev entry : (c : tie.After-offer-arg) → tie.Start
 entry c = read (c .before .before)
@@ -68,29 +71,11 @@ offer-is : (k : tie.Start) (z : ℤ) → z ≡ at (now (k .args .a)) (getD (now 
     → z ≡ asked k
 offer-is k z h = rw (toZ-ofZ (amount-fits k)) at h
 
-mul-t : tie.Need-mul-t
-mul-t c = search needs
-
-shared-slice-read-t : tie.Need-shared-slice-read-t
-shared-slice-read-t c = search needs
-
 cast-t : tie.Need-cast-t
 cast-t c = let k = read c in omega (arith, tail-below k, few k)
 
-mul-h : tie.Need-mul-h
-mul-h c = search needs
-
-shared-slice-read-h : tie.Need-shared-slice-read-h
-shared-slice-read-h c = search needs
-
 cast-h : tie.Need-cast-h
 cast-h c = let k = read (c .before) in omega (arith, head-below k, few k)
-
-mul-offer : tie.Need-mul-offer
-mul-offer c = search needs
-
-shared-slice-copy-out-offer : tie.Need-shared-slice-copy-out-offer
-shared-slice-copy-out-offer c = search needs
 
 offer-requires : tie.Need-offer-requires
 offer-requires c κs = let k = entry c in (omega (arith, tail-below k, k .pre .1 .1 .long), rw (toZ-ofZ (amount-fits k)) (offer-fits k))
@@ -107,20 +92,11 @@ mul-x c = let k = entry (raises c .before) in omega (arith, head-below k, few k)
 slice-set-from-x : tie.Need-slice-set-from-x
 slice-set-from-x c = let k = entry (raises c .before) in omega (arith, head-below k, k .pre .1 .2)
 
-cast-p : tie.Need-cast-p
-cast-p c = search needs
-
 mul-p : tie.Need-mul-p
 mul-p c = let k = entry (raises c .before) in omega (arith, head-below k, few k)
 
 slice-write-p : tie.Need-slice-write-p
 slice-write-p c = let k = entry (raises c .before) in omega (arith, head-below k, k .pre .1 .3)
-
-same-length : tie.Need-same-length
-same-length c = search needs
-
-same-length-2 : tie.Need-same-length-2
-same-length-2 c = search needs
 
 returns : tie.Need-returns
 returns c =
@@ -144,23 +120,23 @@ pub lift-spec : {M : Type 1} → statement M
 lift-spec =
     tie.close
     (tie.spec
-    mul-t
-    shared-slice-read-t
+    (λ c. search needs)
+    (λ c. search needs)
     cast-t
-    mul-h
-    shared-slice-read-h
+    (λ c. search needs)
+    (λ c. search needs)
     cast-h
-    mul-offer
-    shared-slice-copy-out-offer
+    (λ c. search needs)
+    (λ c. search needs)
     offer-requires
     mul-if1
     slice-copy-out-if1
     mul-x
     slice-set-from-x
-    cast-p
+    (λ c. search needs)
     mul-p
     slice-write-p
-    same-length
-    same-length-2
+    (λ c. search needs)
+    (λ c. search needs)
     returns
     returns-2)

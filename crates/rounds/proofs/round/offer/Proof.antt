@@ -9,15 +9,6 @@ use borrow.Author.Needs.{needs}
 use Rattle.rounds.proofs.round.offer.Statement.{statement}
 use Rattle.rounds.proofs.round.offer.Tie as tie
 
-mul-t5 : tie.Need-mul-t5
-mul-t5 c = search needs
-
-shared-slice-copy-out-t7 : tie.Need-shared-slice-copy-out-t7
-shared-slice-copy-out-t7 c = search needs
-
-after-requires : tie.Need-after-requires
-after-requires c κs = search needs
-
 returns : tie.Need-returns
 returns c =
     let k = c .before .before .before in
@@ -25,4 +16,4 @@ returns c =
     toZ-ofZ (search needs) ∙ c .before .after .ensures ∙ ap₂ _+ℤ_ (toZ-ofZ f) (toZ-ofZ (k .fits .w))
 
 pub offer-spec : {M : Type 1} → statement M
-offer-spec = tie.close (tie.spec mul-t5 shared-slice-copy-out-t7 after-requires returns)
+offer-spec = tie.close (tie.spec (λ c. search needs) (λ c. search needs) (λ c κs. search needs) returns)

@@ -4,21 +4,19 @@ use Rattle.skew.proofs.Limits.{numbers-joined}
 use Rattle.skew.proofs.question.in_range.Statement.{statement}
 use Rattle.skew.proofs.question.in_range.Tie as tie
 
-within-requires : tie.Need-within-requires
-within-requires c κs = search needs
+-- ---- the places
 
-within-requires-2 : tie.Need-within-requires-2
-within-requires-2 c κs = search needs
+abbrev start-at-within3 : (c : tie.After-within3) → tie.Start
+start-at-within3 c = c .before .before .before
 
-within-requires-3 : tie.Need-within-requires-3
-within-requires-3 c κs = search needs
+abbrev start-at-all3 : (c : tie.After-all3) → tie.Start
+start-at-all3 c = start-at-within3 (c .before)
 
-all3-requires : tie.Need-all3-requires
-all3-requires c κs = search needs
+-- ---- the answers
 
 returns : tie.Need-returns
 returns c =
-    let start = c .before .before .before .before in
+    let start = start-at-all3 c in
     numbers-joined (start .fits .period) (start .fits .tail) (start .fits .head)
     (c .before .before .before .within .ensures)
     (c .before .before .within2 .ensures)
@@ -26,4 +24,4 @@ returns c =
     (c .all3 .ensures)
 
 pub in-range-spec : {M : Type 1} → statement M
-in-range-spec = tie.close (tie.spec within-requires within-requires-2 within-requires-3 all3-requires returns)
+in-range-spec = tie.close (tie.spec (λ c κs. search needs) (λ c κs. search needs) (λ c κs. search needs) (λ c κs. search needs) returns)

@@ -8,14 +8,11 @@ use Rattle.skew.proofs.question.question.Statement.{statement}
 use Rattle.skew.proofs.question.question.Tie as tie
 
 -- where the file is known to be accepted, back to the start
-abbrev from-told : tie.After-enum-told → tie.Start
-from-told c = c .before .before .before .before
+abbrev start-at-at-match-keys2 : (c : tie.At-match-keys2) → tie.Start
+start-at-at-match-keys2 c = c .before .before .before
 
-judge-requires : tie.Need-judge-requires
-judge-requires c κs = search needs
-
-enum-known-verdict : tie.Need-enum-known-verdict
-enum-known-verdict c = search needs
+abbrev from-told : (c : tie.After-enum-told) → tie.Start
+from-told c = start-at-at-match-keys2 (c .before)
 
 enum-told : tie.Need-enum-told
 enum-told c = search needs
@@ -35,4 +32,4 @@ returns-2 c =
 pub question-spec : {M : Type 1} → statement M
 question-spec =
     tie.close
-    (tie.spec judge-requires enum-known-verdict enum-told reply-requires returns returns-2)
+    (tie.spec (λ c κs. search needs) (λ c. search needs) enum-told reply-requires returns returns-2)

@@ -19,18 +19,12 @@ use Rattle.skew.proofs.Replies.{is-in-range, no-rule, no-numbers, quest
 use Rattle.skew.proofs.question.reply.Statement.{statement}
 use Rattle.skew.proofs.question.reply.Tie as tie
 
-header-requires : tie.Need-header-requires
-header-requires c κs = search needs
-
-in-range-requires : tie.Need-in-range-requires
-in-range-requires c κs = search needs
-
-exists-requires : tie.Need-exists-requires
-exists-requires c κs = search needs
-
 -- behind the two tests, back to the start
-abbrev from-tests : tie.After-exists → tie.Start
-from-tests c = c .before .before .before .before
+abbrev start-at-in-range : (c : tie.After-in-range) → tie.Start
+start-at-in-range c = c .before .before .before
+
+abbrev from-tests : (c : tie.After-exists) → tie.Start
+from-tests c = start-at-in-range (c .before)
 
 abbrev at : tie.Start → Question
 at s = asked (read (s .args .period)) (read (s .args .kind)) (read (s .args .number)) (read (s .args .tail)) (read (s .args .head))
@@ -92,9 +86,9 @@ pub reply-spec : {M : Type 1} → statement M
 reply-spec =
     tie.close
     (tie.spec
-    header-requires
-    in-range-requires
-    exists-requires
+    (λ c κs. search needs)
+    (λ c κs. search needs)
+    (λ c κs. search needs)
     returns
     returns-2
     slack-requires

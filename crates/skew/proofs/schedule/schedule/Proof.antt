@@ -17,8 +17,11 @@ use Rattle.skew.proofs.schedule.schedule.Tie as tie
 abbrev file-of : tie.Start → List ℕ
 file-of s = now (s .args .file)
 
-abbrev from-told : tie.After-enum-told → tie.Start
-from-told c = c .before .before .before .before .before
+abbrev start-at-judge : (c : tie.After-judge) → tie.Start
+start-at-judge c = c .before .before .before
+
+abbrev from-told : (c : tie.After-enum-told) → tie.Start
+from-told c = start-at-judge (c .before .before)
 
 abbrev from-header : tie.After-header → tie.Start
 from-header c = from-told (c .before)
@@ -31,12 +34,6 @@ counted c = c .header .ensures .registers
 
 few : (c : tie.After-header) → c .header .result .registers ≤ 256
 few c = let e = counted c in let t = accepted-legal _ (accepted (c .before)) .registers-to in omega arith
-
-judge-requires : tie.Need-judge-requires
-judge-requires c κs = search needs
-
-enum-known-verdict : tie.Need-enum-known-verdict
-enum-known-verdict c = search needs
 
 enum-told : tie.Need-enum-told
 enum-told c = search needs
@@ -65,9 +62,6 @@ solve-requires c κs =
 returns-2 : tie.Need-returns-2
 returns-2 c = result-fault _ _ _ _ (c .before .before .before .judge .ensures) (c .before .verdict .given .1)
 
-same-length : tie.Need-same-length
-same-length c = search needs
-
 returns-3 : tie.Need-returns-3
 returns-3 c =
     let solved = c .before .before in
@@ -81,8 +75,8 @@ pub schedule-spec : {M : Type 1} → statement M
 schedule-spec =
     tie.close
     (tie.spec
-    judge-requires
-    enum-known-verdict
+    (λ c κs. search needs)
+    (λ c. search needs)
     enum-told
     header-requires
     mul-if1
@@ -90,5 +84,5 @@ schedule-spec =
     returns
     solve-requires
     returns-2
-    same-length
+    (λ c. search needs)
     returns-3)
