@@ -1,7 +1,7 @@
 /* Clock skew scheduling for callers in C.
  *
  * Both functions return for every input, keep nothing between calls, use no memory but their stack, of which `skew_schedule` takes about
- * 49 KB, and touch no byte outside what they are lent. All times are whole picoseconds.
+ * 64 KB, and touch no byte outside what they are lent. All times are whole picoseconds.
  *
  * A buffer is lent as a pointer and a count of bytes. The pointer must not be null, even where the count is 0, and `out` must not
  * overlap `file`.

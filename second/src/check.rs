@@ -1,9 +1,10 @@
 //! The checker of complete outputs: the number, the place and every byte of the output buffer.
 
+use crate::decide;
 use crate::file::{self, marked, number_at, Refusal};
 use crate::paper::{Network, Rule};
 use crate::question::{self, Question, Reply};
-use crate::verdict::{self, Verdict};
+use crate::verdict::Verdict;
 use crate::witness;
 
 /// What must come back for a file and a room. Computed once, it can judge any number of answers.
@@ -20,7 +21,7 @@ impl Expected {
             Err(refusal) => Expected::Untouched(refusal),
             Ok(network) if room < 14 + 16 * network.registers.len() => Expected::Untouched(Refusal::whole_file(7)),
             Ok(network) => {
-                let verdict = verdict::of(&network);
+                let verdict = decide::verdict(&network);
                 Expected::Written(network, verdict)
             }
         }

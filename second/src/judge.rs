@@ -32,9 +32,17 @@ impl Tally {
     pub fn report(&self) -> String {
         let mut lines: Vec<String> = self.seen.iter().map(|(what, count)| format!("{what}: {count}")).collect();
         lines.extend(self.faults.iter().cloned());
-        lines.extend(self.broken.iter().cloned());
-        lines.push(format!("judged {}, wrong {}", self.judged, self.wrong));
+        lines.push(self.last_line());
         lines.join("\n") + "\n"
+    }
+
+    /// A broken stream is not judged to its end, so its last line must not read like that of a clean one.
+    fn last_line(&self) -> String {
+        let Tally { judged, wrong, .. } = self;
+        match &self.broken {
+            Some(fault) => format!("BROKEN: {fault}; {judged} judged, {wrong} wrong"),
+            None => format!("judged {judged}, wrong {wrong}"),
+        }
     }
 
     fn count(&mut self, what: String) {

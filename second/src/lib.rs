@@ -8,6 +8,7 @@
 pub mod answer;
 pub mod arrows;
 pub mod check;
+pub mod decide;
 pub mod draft;
 pub mod fast;
 pub mod file;

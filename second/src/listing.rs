@@ -2,14 +2,15 @@
 
 use std::fmt::Write;
 
+use crate::decide;
 use crate::file::{self, Refusal};
 use crate::paper::{Network, Rule};
-use crate::verdict::{self, Verdict};
+use crate::verdict::Verdict;
 
 pub fn listing(file: &[u8]) -> String {
     match file::read(file) {
         Err(refusal) => refused(refusal),
-        Ok(network) => listed(&network, &verdict::of(&network)),
+        Ok(network) => listed(&network, &decide::verdict(&network)),
     }
 }
 

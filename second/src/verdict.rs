@@ -1,8 +1,6 @@
 //! What is to be said of an accepted network.
 
-use crate::arrows::Problem;
-use crate::paper::{Network, Rule};
-use crate::{fast, solver};
+use crate::paper::Rule;
 
 #[derive(Clone, Debug, PartialEq, Eq)]
 pub enum Verdict {
@@ -37,17 +35,5 @@ impl Verdict {
             Verdict::Answered { period, latencies, .. } => (0, Some((*period, latencies))),
             _ => (self.number(), None),
         }
-    }
-}
-
-/// All pairs cost the cube of the register count, so larger networks go to the fast solver.
-const ALL_PAIRS_UP_TO: usize = 8;
-
-pub fn of(network: &Network) -> Verdict {
-    let problem = Problem::of(network);
-    if problem.registers <= ALL_PAIRS_UP_TO {
-        solver::solve(&problem)
-    } else {
-        fast::solve(&problem)
     }
 }

@@ -4,10 +4,11 @@ mod support;
 
 use second::answer::answer;
 use second::check::judge_solve;
+use second::decide;
 use second::gen::Source;
 use second::judge::{as_it_should_be, judge, try_programs, Judge};
 use second::paper::{Kind, Network, Rule};
-use second::verdict::{self, Verdict};
+use second::verdict::Verdict;
 use second::wire::{fresh_buffer, Answer, Request};
 use support::{accepted, all_loops, loops_allowed, output, rules_of, sum_at, tiny_networks, worked_cases};
 
@@ -25,7 +26,7 @@ struct Sample {
 impl Sample {
     fn of(draft: &second::draft::Draft, spare: i32) -> Sample {
         let network = accepted(draft);
-        let verdict = verdict::of(&network);
+        let verdict = decide::verdict(&network);
         let (period, latencies) = match &verdict {
             Verdict::Answered { period, latencies, .. } => (*period, latencies.clone()),
             _ => (0, Vec::new()),

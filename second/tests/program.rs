@@ -74,10 +74,11 @@ fn answers_cut_short_or_too_long_fail() {
     let requests = second(&["ask", "6", "50", "tiny"], b"").stdout;
     let answers = second(&["answer"], &requests).stdout;
     let short = &answers[..answers.len() - 1];
-    assert_eq!(judged("short", &requests, short), (Some(1), "judged 49, wrong 0".to_string()));
+    let broken = |fault: &str, judged| (Some(1), format!("BROKEN: {fault}; {judged} judged, 0 wrong"));
+    assert_eq!(judged("short", &requests, short), broken("the answers are cut short at request 49", 49));
     let long = [&answers[..], &[0]].concat();
-    assert_eq!(judged("long", &requests, &long), (Some(1), "judged 50, wrong 0".to_string()));
-    assert_eq!(judged("none", &requests, b""), (Some(1), "judged 0, wrong 0".to_string()));
+    assert_eq!(judged("long", &requests, &long), broken("1 bytes follow the last answer", 50));
+    assert_eq!(judged("none", &requests, b""), broken("the answers are cut short at request 0", 0));
 }
 
 #[test]

@@ -1,4 +1,5 @@
--- A record written piece by piece, two marks and then its numbers, is one run of stores.
+-- A record written piece by piece, two marks and then its numbers, is one run of stores. Rests on `four-length` and `stores-then` of `whole`. The
+-- numbers that are written are those of the contract, read back from machine words.
 use mathlib.Core.Path.{_≡_, refl, _∙_}
 use mathlib.Core.List.{List, _++_}
 use Prim.Native.Nat.{ℕ, suc, _+_}
@@ -13,15 +14,17 @@ use Rattle.whole.proofs.Stores.{stores-then}
 use Rattle.paper.specs.Output.{latencyRecord}
 use Rattle.answer.specs.Records.{skewBytes, entryBytes}
 
+-- two marks leave the output as long as it was
 pub marks-long : (l : List ℕ) (i j a b : ℕ) → length (set (set l i a) j b) ≡ length l
 marks-long l i j a b = simp length-set
 
--- the numbers that are written are those of the contract, read back from machine words
+-- the marks `LT` and a number are a latency's record
 pub latency-written : (l after : List ℕ) (at : ℕ) (x x′ : ℤ)
     → after ≡ sets (set (set l at 76) (at + 1) 84) (at + 2) (four x′) → x′ ≡ x
     → after ≡ sets l at (latencyRecord x)
 latency-written l after at x x′ h e = h ∙ rw (e, add-one, add-two) refl
 
+-- the marks `ED` and two numbers are an entry's record
 pub entry-written : (l mid after : List ℕ) (at : ℕ) (x x′ y y′ : ℤ)
     → mid ≡ sets (set (set l at 69) (at + 1) 68) (at + 2) (four x′) → x′ ≡ x
     → after ≡ sets mid (at + 6) (four y′) → y′ ≡ y
@@ -31,6 +34,7 @@ entry-written l mid after at x x′ y y′ g e h f =
     ∙ rw (g, e, f, add-one, add-two)
     (stores-then (four x) (four y) (set (set l at 69) (suc at) 68) (suc (suc at)) (at + 6) (omega (arith, four-length x)))
 
+-- the marks `SK` and three numbers are the first record
 pub skew-written : (l mid far after : List ℕ) (x x′ y y′ z z′ : ℤ)
     → mid ≡ sets (set (set l 0 83) 1 75) 2 (four x′) → x′ ≡ x
     → far ≡ sets mid 6 (four y′) → y′ ≡ y

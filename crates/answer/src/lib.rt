@@ -6,7 +6,7 @@ ghost use Prim.Native.Nat.{_+_, _*_, _≤_};
 ghost use lib.ListN.{length, take};
 ghost use Rattle.paper.specs.Output.{LoopAlone};
 ghost use Rattle.loops.specs.Names.{named};
-ghost use Rattle.answer.specs.Records.{Listed, AnswerBytes};
+ghost use Rattle.answer.specs.Records.{Nameable, Answerable, AnswerBytes};
 
 mod record;
 mod run;
@@ -21,8 +21,7 @@ pub fn answered(
     ring: &[u16],
     entries: usize,
 )
-    requires { ⌜ Listed (now kind) (now number) (now ring) entries ⌝ }
-    requires { ⌜ (length (now row) ≤ 256) × (14 + 6 * length (now row) + 10 * entries ≤ length (now out)) ⌝ }
+    requires { ⌜ Answerable (now kind) (now number) (now ring) entries (now row) (now out) ⌝ }
     ensures { λ _. ⌜ AnswerBytes period (now (row .entry)) (map (named (now (kind .entry)) (now (number .entry))) (take entries (now (ring .entry)))) (now (out .entry)) (now (out .exit)) ⌝ }
 {
     let n = row.len();
@@ -33,7 +32,7 @@ pub fn answered(
 
 // No period and no latencies: only the loop that contradicts itself.
 pub fn loop_alone(out: &mut [u8], kind: &[u8], number: &[u16], ring: &[u16], entries: usize)
-    requires { ⌜ Listed (now kind) (now number) (now ring) entries ⌝ }
+    requires { ⌜ Nameable (now kind) (now number) (now ring) entries ⌝ }
     requires { ⌜ 14 + 10 * entries ≤ length (now out) ⌝ }
     ensures { λ _. ⌜ LoopAlone (map (named (now (kind .entry)) (now (number .entry))) (take entries (now (ring .entry)))) (now (out .entry)) (now (out .exit)) ⌝ }
 {

@@ -7,15 +7,16 @@ ghost use lib.Seq.{sets};
 ghost use Rattle.paper.specs.Output.{latencyRecords, entryRecords};
 ghost use Rattle.loops.specs.Model.{at};
 ghost use Rattle.loops.specs.Names.{named};
-ghost use Rattle.answer.specs.Records.{Listed};
+ghost use Rattle.answer.specs.Records.{Nameable, Timeable};
 use crate::record::put_entry;
 use crate::record::put_latency;
 
 // The latencies stand behind the answer's first record, which takes 14 bytes.
 pub fn put_latencies(out: &mut [u8], row: &[i32], n: usize)
-    requires { ⌜ (length (now row) ≡ n) × (14 + 6 * n ≤ length (now out)) × (n ≤ 256) ⌝ }
+    requires { ⌜ Timeable (now row) n (now out) ⌝ }
     ensures { λ _. ⌜ now (out .exit) ≡ sets (now (out .entry)) 14 (latencyRecords (at (now (row .entry))) n) ⌝ }
 {
+    // The latencies of the registers before i stand in the output, and nothing else changed.
     let mut i = 0;
     while i < n {
         put_latency(out, 14 + 6 * i, row[i]);
@@ -32,9 +33,10 @@ pub fn put_entries(
     ring: &[u16],
     entries: usize,
 )
-    requires { ⌜ (Listed (now kind) (now number) (now ring) entries) × (at + 10 * entries ≤ length (now out)) ⌝ }
+    requires { ⌜ (Nameable (now kind) (now number) (now ring) entries) × (at + 10 * entries ≤ length (now out)) ⌝ }
     ensures { λ _. ⌜ now (out .exit) ≡ sets (now (out .entry)) at (entryRecords (map (named (now (kind .entry)) (now (number .entry))) (take entries (now (ring .entry))))) ⌝ }
 {
+    // The records of the first j entries stand in the output from `at` on, and nothing else changed.
     let mut j = 0;
     while j < entries {
         let e = ring[j] as usize;

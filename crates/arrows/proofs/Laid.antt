@@ -1,31 +1,33 @@
 -- What filled lists are to a caller: all rules laid out at the period whose amounts are in place, the rules that do not know it at every
--- period, and every amount in a range that leaves the sums of a relaxation room.
+-- period, and every amount in a range that leaves the sums of a relaxation room. Rests on `Places` and `Outcomes` of `loops`, and on the
+-- ranges of `rules`.
 use mathlib.Core.Path.{_≡_, refl, sym, ap, _∙_}
 use mathlib.Core.List.{List}
-use Prim.Native.Nat.{ℕ, _+_, _-_, _*_, _≤_, _<_}
+use Prim.Native.Nat.{ℕ, _+_, _-_, _≤_, _<_}
 use native.Mathlib.Omega.{arith}
 use native.Mathlib.Decide.{decLt}
-use lib.ListN.{length, getD}
+use lib.ListN.{getD}
 use lib.IntN.{ℤ, pos, negsuc, negℤ, _-ℤ_}
 use lib.Signed.{_≤ℤ_}
 use Rattle.whole.proofs.Lin.{lin, below, negs}
 use Rattle.paper.specs.Network.{Network}
-use Rattle.paper.specs.Rules.{Rule, Setup, Hold, Low, High, tail, head, base}
+use Rattle.paper.specs.Rules.{Rule, Setup, Hold, Low, High, base}
 use Rattle.paper.specs.Rules.{amount as ruleAmount}
 use Rattle.paper.proofs.Legal.{Legal}
-use Rattle.loops.specs.Arrows.{Arrows, Sound, Lows, Highs, arrows, amount}
-use Rattle.loops.specs.Family.{Graph, Row, Framed, Lays, fixedGraph}
+use Rattle.loops.specs.Arrows.{Lows, Highs, arrows}
+use Rattle.loops.specs.Family.{Enumerates, Lays, fixedGraph}
 use Rattle.loops.specs.RuleFamily.{IsFixed, graphOf, rules}
 use Rattle.loops.specs.Layout.{lowPlace, fixedPlaces, fixedCount, ruleCount}
 use Rattle.loops.specs.Shape.{Shape, Modest}
-use Rattle.loops.specs.Begun.{Begins}
+use Rattle.loops.specs.Begun.{Extends}
 use Rattle.loops.proofs.Places.{legal-joined, rules-framed, fixed-framed}
 use Rattle.loops.proofs.Outcomes.{framed-sound, framed-lows, framed-highs}
 use Rattle.rules.proofs.Amounts.{base-small, amount-modest}
 use Rattle.rules.proofs.Ranges.{small-less}
 use Rattle.rules.specs.Amounts.{Small}
 use Rattle.places.specs.Few.{Few}
-use Rattle.arrows.specs.Filled.{Lists, ruleIn, Room, Filled, Period, Weighable, Weighed}
+use Rattle.arrows.specs.Filled.{Lists, ruleIn, Room, Filled, Weighable, Weighed}
+use Rattle.paper.specs.Limits.{Period}
 
 -- ---- the counts as a caller has them
 
@@ -33,6 +35,7 @@ use Rattle.arrows.specs.Filled.{Lists, ruleIn, Room, Filled, Period, Wei
 pub rules-few : (N : Network) → Legal N → ruleCount N ≤ 4606
 rules-few N l = omega (arith, l .registers-to, l .paths-to)
 
+-- an accepted network's counts are few, as `places` asks
 pub legal-few : (N : Network) → Legal N → (n m : ℕ) → n ≡ N .registers → m ≡ N .paths → Few n m
 legal-few N l n m en em = let a = l .registers-from in let b = l .registers-to in let c = l .paths-to in record { some = omega arith; registers = omega arith; paths = omega arith }
 
@@ -45,16 +48,18 @@ fixed-amount N P (High i) h = refl
 module _ (N : Network) (L : Lists) (amounts bases : List ℤ) (f : Filled N L amounts bases) where
   -- ---- the rules that do not know the period, at every period
 
+  -- they are laid out, whatever the period is
   pub filled-fixed : (n P : ℕ) → n ≡ N .registers → Lays (fixedGraph (rules N)) (ruleIn L) (ruleAmount N P) (arrows n (fixedCount N) (L .tails) (L .heads) amounts)
   filled-fixed n P e = record {
     registers = e;
     tails = λ k h. f .leaves k (omega arith);
     heads = λ k h. f .reaches k (omega arith);
-    amounts = λ k h. f .fixed k h ∙ fixed-amount N P (ruleIn L k) (f .fixed-row .named k h .1);
+    amounts = λ k h. f .fixed k h ∙ fixed-amount N P (ruleIn L k) (f .fixed-enumerates .here k h .1);
   }
 
   -- ---- another period
 
+  -- a period that the paper allows may be put in
   pub filled-weighable : Legal N → (n m : ℕ) → n ≡ N .registers → m ≡ N .paths → (period : ℤ) → Period period → Weighable n m period amounts bases
   filled-weighable legal n m en em period q = record {
     few = legal-few N legal n m en em;
@@ -70,6 +75,7 @@ module _ (N : Network) (L : Lists) (amounts bases : List ℤ) (f : Filled N L am
     abbrev fixed-is : fixedPlaces n m ≡ fixedCount N
     fixed-is = omega arith
 
+    -- the lists are filled still
     pub weighed-filled : Filled N L after bases
     weighed-filled = record {
       room = record {
@@ -80,8 +86,8 @@ module _ (N : Network) (L : Lists) (amounts bases : List ℤ) (f : Filled N L am
         in-amounts = omega (arith, w .long, f .room .in-amounts);
         in-bases = f .room .in-bases;
       };
-      row = f .row;
-      fixed-row = f .fixed-row;
+      enumerates = f .enumerates;
+      fixed-enumerates = f .fixed-enumerates;
       kinds-are = f .kinds-are;
       leaves = f .leaves;
       reaches = f .reaches;
@@ -108,8 +114,8 @@ module _ (N : Network) (L : Lists) (amounts bases : List ℤ) (f : Filled N L am
             ∙ ap (ruleAmount N P) (sym is) ∙ ap (λ i. ruleAmount N P (ruleIn L i)) place
 
     -- what stands before the setup rules is as it was
-    pub weighed-begins : Begins (arrows n (ruleCount N) (L .tails) (L .heads) after) (arrows n (fixedPlaces n m) (L .tails) (L .heads) amounts)
-    weighed-begins = record { registers = refl; fewer = omega arith; tails = λ e h. refl; heads = λ e h. refl; amounts = w .same }
+    pub weighed-extends : Extends (arrows n (ruleCount N) (L .tails) (L .heads) after) (arrows n (fixedPlaces n m) (L .tails) (L .heads) amounts)
+    weighed-extends = record { registers = refl; fewer = omega arith; tails = λ e h. refl; heads = λ e h. refl; amounts = w .same }
 
 -- ---- laid-out arrows are what a relaxation asks for
 
@@ -127,45 +133,50 @@ module _ (N : Network) (legal : Legal N) (L : Lists) (amounts bases : List ℤ) 
   modest : (r : Rule) → graphOf N .Here r → Modest (ruleAmount N P r)
   modest r h = let b = amount-modest legal P r small h in record { from = b .from; to = b .to }
 
-  module _ (row : Row (graphOf N) (ruleIn L) (ruleCount N)) (y : Lays (graphOf N) (ruleIn L) (ruleAmount N P) (arrows n (ruleCount N) (L .tails) (L .heads) amounts)) where
+  module _ (names : Enumerates (graphOf N) (ruleIn L) (ruleCount N)) (y : Lays (graphOf N) (ruleIn L) (ruleAmount N P) (arrows n (ruleCount N) (L .tails) (L .heads) amounts)) where
+    -- all rules are what a relaxation may be given
     pub laid-shape : Shape (arrows n (ruleCount N) (L .tails) (L .heads) amounts)
     laid-shape =
         let few = legal .registers-to in
         let same = y .registers in
         let all = rules-few N legal in
         record {
-          sound = framed-sound (graphOf N) (rules-framed N (legal-joined N legal)) (ruleIn L) (ruleAmount N P) _ row y;
+          sound = framed-sound (graphOf N) (rules-framed N (legal-joined N legal)) (ruleIn L) (ruleAmount N P) _ names y;
           few = omega arith;
           named = omega arith;
           tails-long = room .in-tails;
           heads-long = room .in-heads;
           amounts-long = room .in-amounts;
-          modest = λ e h. rw (y .amounts e h) (modest (ruleIn L e) (row .named e h));
+          modest = λ e h. rw (y .amounts e h) (modest (ruleIn L e) (names .here e h));
         }
 
+    -- and each register has a high rule that keeps it at or below 2 ^ 24
     pub laid-highs : Highs (arrows n (ruleCount N) (L .tails) (L .heads) amounts) 16777216
-    laid-highs = framed-highs (graphOf N) (rules-framed N (legal-joined N legal)) (ruleIn L) (ruleAmount N P) _ row y 16777216 highest
+    laid-highs = framed-highs (graphOf N) (rules-framed N (legal-joined N legal)) (ruleIn L) (ruleAmount N P) _ names y 16777216 highest
 
   module _ (f : Filled N L amounts bases) (y : Lays (fixedGraph (rules N)) (ruleIn L) (ruleAmount N P) (arrows n (fixedCount N) (L .tails) (L .heads) amounts)) where
+    -- so are the rules that do not know the period
     pub fixed-shape : Shape (arrows n (fixedCount N) (L .tails) (L .heads) amounts)
     fixed-shape =
         let few = legal .registers-to in
         let same = y .registers in
         let all = rules-few N legal in
         record {
-          sound = framed-sound (fixedGraph (rules N)) (fixed-framed N (legal-joined N legal)) (ruleIn L) (ruleAmount N P) _ (f .fixed-row) y;
+          sound = framed-sound (fixedGraph (rules N)) (fixed-framed N (legal-joined N legal)) (ruleIn L) (ruleAmount N P) _ (f .fixed-enumerates) y;
           few = omega arith;
           named = omega arith;
           tails-long = omega (arith, room .in-tails);
           heads-long = omega (arith, room .in-heads);
           amounts-long = omega (arith, room .in-amounts);
-          modest = λ e h. rw (y .amounts e h) (modest (ruleIn L e) (f .fixed-row .named e h .0));
+          modest = λ e h. rw (y .amounts e h) (modest (ruleIn L e) (f .fixed-enumerates .here e h .0));
         }
 
+    -- and their high rules do the same
     pub fixed-highs : Highs (arrows n (fixedCount N) (L .tails) (L .heads) amounts) 16777216
-    fixed-highs = framed-highs (fixedGraph (rules N)) (fixed-framed N (legal-joined N legal)) (ruleIn L) (ruleAmount N P) _ (f .fixed-row) y 16777216 highest
+    fixed-highs = framed-highs (fixedGraph (rules N)) (fixed-framed N (legal-joined N legal)) (ruleIn L) (ruleAmount N P) _ (f .fixed-enumerates) y 16777216 highest
 
+    -- the low rule of register v stands at `lowPlace v`
     pub fixed-lows : Lows (arrows n (fixedCount N) (L .tails) (L .heads) amounts) lowPlace
     fixed-lows =
-        framed-lows (fixedGraph (rules N)) (fixed-framed N (legal-joined N legal)) (ruleIn L) (ruleAmount N P) _ (f .fixed-row) y lowPlace
+        framed-lows (fixedGraph (rules N)) (fixed-framed N (legal-joined N legal)) (ruleIn L) (ruleAmount N P) _ (f .fixed-enumerates) y lowPlace
         (λ v z b. (omega arith, f .lows v z b))

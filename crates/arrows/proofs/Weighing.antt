@@ -1,4 +1,4 @@
--- The setup rules' amounts at a period, path by path.
+-- The setup rules' amounts at a period, path by path. Rests on what `set` changes of a list.
 use mathlib.Core.Path.{_≡_, refl, _∙_, subst, sym}
 use mathlib.Core.List.{List}
 use Prim.Native.Nat.{ℕ, _+_, _≤_, _<_}
@@ -10,10 +10,12 @@ use lib.IntN.{ℤ, pos, _-ℤ_}
 use Rattle.arrows.specs.Filled.{WeighedBelow}
 
 module _ (fixed m : ℕ) (period : ℤ) (bases before : List ℤ) where
+  -- before the first path nothing has changed
   pub weighed-none : WeighedBelow fixed m period bases before before 0
   weighed-none = record { long = refl; same = λ e h. refl; rest = λ e h. refl; new = λ p h. absurd (omega arith) }
 
-  pub weighed-more : (after : List ℤ) (k : ℕ) → k < m → fixed + m ≤ length before → WeighedBelow fixed m period bases before after k
+  -- a turn: one more amount, and every other place as it was
+  weighed-more : (after : List ℤ) (k : ℕ) → k < m → fixed + m ≤ length before → WeighedBelow fixed m period bases before after k
       → WeighedBelow fixed m period bases before (set after (fixed + k) (getD bases k (pos 0) -ℤ period)) (k + 1)
   weighed-more after k l room w = record {
     long = length-set after (fixed + k) _ ∙ w .long;

@@ -4,15 +4,14 @@ use mathlib.Core.List.{List}
 use Prim.Native.Nat.{ℕ, _+_, _≤_, _<_}
 use lib.ListN.{length, getD}
 use lib.IntN.{ℤ, pos, _-ℤ_}
-use lib.Signed.{_≤ℤ_}
 use mir.Syntax.{w32}
 use mir.Val.{SFits}
 use Rattle.paper.specs.Network.{Network}
 use Rattle.paper.specs.Rules.{Rule, Setup, Low, tail, head, base}
-use Rattle.loops.specs.Family.{Row, fixedGraph}
+use Rattle.loops.specs.Family.{Enumerates, fixedGraph}
 use Rattle.loops.specs.RuleFamily.{graphOf, rules}
 use Rattle.loops.specs.Names.{named}
-use Rattle.loops.specs.Layout.{lowPlace, fixedPlaces, allPlaces, fixedCount, ruleCount}
+use Rattle.loops.specs.Layout.{lowPlace, allPlaces, fixedCount, ruleCount}
 use Rattle.places.specs.Few.{Few}
 
 -- the rules by place: each one's kind and number, and the registers that its arrow leaves and reaches
@@ -39,11 +38,12 @@ pub record Room (N : Network) (L : Lists) (amounts bases : List ℤ) : Type 0 wh
   pub in-bases : N .paths ≤ length bases
 
 -- Every rule has a place, and those that do not know the period have theirs before all others. Each place has its rule's ends, and before
--- the setup rules its amount; of a setup rule what its amount is without the period is kept.
+-- the setup rules its amount; of a setup rule what its amount is without the period is kept. Each kind is below 4, the setup rules stand in
+-- the order of their paths, and the low rule of register v at `lowPlace v`.
 pub record Filled (N : Network) (L : Lists) (amounts bases : List ℤ) : Type 0 where
   pub room : Room N L amounts bases
-  pub row : Row (graphOf N) (ruleIn L) (ruleCount N)
-  pub fixed-row : Row (fixedGraph (rules N)) (ruleIn L) (fixedCount N)
+  pub enumerates : Enumerates (graphOf N) (ruleIn L) (ruleCount N)
+  pub fixed-enumerates : Enumerates (fixedGraph (rules N)) (ruleIn L) (fixedCount N)
   pub kinds-are : (e : ℕ) → e < ruleCount N → getD (L .kinds) e 0 < 4
   pub leaves : (e : ℕ) → e < ruleCount N → getD (L .tails) e 0 ≡ tail N (ruleIn L e)
   pub reaches : (e : ℕ) → e < ruleCount N → getD (L .heads) e 0 ≡ head N (ruleIn L e)
@@ -51,11 +51,6 @@ pub record Filled (N : Network) (L : Lists) (amounts bases : List ℤ) : Type 0 
   pub setups : (p : ℕ) → p < N .paths → ruleIn L (fixedCount N + p) ≡ Setup p
   pub based : (p : ℕ) → p < N .paths → getD bases p (pos 0) ≡ base N (Setup p)
   pub lows : (v : ℕ) → 0 < v → v < N .registers → ruleIn L (lowPlace v) ≡ Low v
-
--- a period that the paper allows
-pub record Period (z : ℤ) : Type 0 where
-  pub from : pos 1 ≤ℤ z
-  pub to : z ≤ℤ pos 10000000
 
 -- ---- the setup rules' amounts at a period
 

@@ -1,37 +1,31 @@
-// One rule written at place e.
-ghost use mathlib.Core.Path.{_≡_};
-ghost use Prim.Native.Nat.{_<_};
-ghost use lib.ListN.{length, set};
+// Two rules whose arrows lead to and fro between the same registers, written at their places.
 ghost use Rattle.arrows.specs.Filled.{lists};
 ghost use Rattle.arrows.specs.Filling.{Writable, Put};
-use paper::Delay;
 
-// Its kind and number, and its arrow's ends.
-pub fn rule(
+// The rule of kind k at place e, with an arrow from x to y, and the rule of kind l at place g, with an arrow from y to x; both of number i.
+pub fn both(
     kind: &mut [u8],
     number: &mut [u16],
     tail: &mut [u16],
     head: &mut [u16],
     e: usize,
     k: u8,
+    g: usize,
+    l: u8,
     i: usize,
-    t: usize,
-    h: usize,
+    x: usize,
+    y: usize,
 )
-    requires { ⌜ Writable (lists (now kind) (now number) (now tail) (now head)) e i t h ⌝ }
-    ensures { λ _. ⌜ Put (lists (now (kind .entry)) (now (number .entry)) (now (tail .entry)) (now (head .entry))) e k i t h (lists (now (kind .exit)) (now (number .exit)) (now (tail .exit)) (now (head .exit))) ⌝ }
+    requires { ⌜ Writable (lists (now kind) (now number) (now tail) (now head)) e g i x y ⌝ }
+    ensures { λ _. ⌜ Put (lists (now (kind .entry)) (now (number .entry)) (now (tail .entry)) (now (head .entry))) e k g l i x y
+        (lists (now (kind .exit)) (now (number .exit)) (now (tail .exit)) (now (head .exit))) ⌝ }
 {
     kind[e] = k;
+    kind[g] = l;
     number[e] = i as u16;
-    tail[e] = t as u16;
-    head[e] = h as u16;
-}
-
-// Its amount.
-pub fn weigh(amount: &mut [i32], e: usize, d: Delay)
-    requires { ⌜ e < length (now amount) ⌝ }
-    ensures { λ _. ⌜ now (amount .exit) ≡ set (now (amount .entry)) e (d .0) ⌝ }
-{
-    let w = d.0;
-    amount[e] = w;
+    number[g] = i as u16;
+    tail[e] = x as u16;
+    tail[g] = y as u16;
+    head[e] = y as u16;
+    head[g] = x as u16;
 }

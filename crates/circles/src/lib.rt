@@ -1,22 +1,19 @@
 // The search for a circle among the preds, from a register that is not grounded, and the arrows of the circle that it found. Nothing here
 // writes a pred. Each walk takes at most as many steps as there are registers.
 ghost use mathlib.Core.Path.{_≡_};
-ghost use mathlib.Core.Bool.{false};
 ghost use mathlib.Core.List.{_++_};
-ghost use Prim.Native.Nat.{_≤_, _<_};
-ghost use lib.ListN.{length, getD, take, drop};
+ghost use Prim.Native.Nat.{_<_};
+ghost use lib.ListN.{length, getD, drop};
 ghost use Rattle.loops.specs.Arrows.{arrows};
-ghost use Rattle.loops.specs.Model.{back, trail, rooted, lowest, around, circleArrows};
-ghost use Rattle.loops.specs.Forest.{Arrowed};
-ghost use Rattle.loops.specs.Shape.{Shape};
-ghost use Rattle.circles.specs.Circle.{IsCircle};
+ghost use Rattle.loops.specs.Model.{back, trail, rooted, lowest, around};
+ghost use Rattle.circles.specs.Circle.{Followable, Unending, Astray, IsCircle, RingRoom, Showable, ShowsCircle};
 
 // The register one step back from v, whose pred is an arrow.
-fn step(tail: &[u16], p: &[u16], v: usize) -> usize
-    requires { ⌜ (v < length (now p)) × (getD (now p) v 0 < length (now tail)) ⌝ }
-    ensures { λ r. ⌜ r ≡ getD (now (tail .entry)) (getD (now (p .entry)) v 0) 0 ⌝ }
+fn step(tail: &[u16], preds: &[u16], v: usize) -> usize
+    requires { ⌜ (v < length (now preds)) × (getD (now preds) v 0 < length (now tail)) ⌝ }
+    ensures { λ r. ⌜ r ≡ getD (now (tail .entry)) (getD (now (preds .entry)) v 0) 0 ⌝ }
 {
-    tail[p[v] as usize] as usize
+    tail[preds[v] as usize] as usize
 }
 
 // Whether the walk back from s comes to a register without a pred. n steps are enough: after them a register has come twice.
@@ -25,24 +22,24 @@ pub fn grounded(
     head: &[u16],
     amount: &[i32],
     n: usize,
-    m: usize,
-    p: &[u16],
+    count: usize,
+    preds: &[u16],
     s: usize,
 ) -> bool
-    requires { ⌜ Shape (arrows n m (now tail) (now head) (now amount)) ⌝ }
-    requires { ⌜ (length (now p) ≡ n) × (s < n) ⌝ }
-    ensures { λ r. ⌜ r ≡ rooted (arrows n m (now (tail .entry)) (now (head .entry)) (now (amount .entry))) (now (p .entry)) n s ⌝ }
+    requires { ⌜ Followable (arrows n count (now tail) (now head) (now amount)) (now preds) s ⌝ }
+    ensures { λ r. ⌜ r ≡ rooted (arrows n count (now (tail .entry)) (now (head .entry)) (now (amount .entry))) (now (preds .entry)) n s ⌝ }
 {
     let mut k = 0;
     let mut v = s;
+    // After k steps the walk stands at v, and it ends from s exactly where it ends from v with the steps that are left (`Followed`).
     while k < n {
-        if m <= p[v] as usize {
+        if count <= preds[v] as usize {
             return true;
         }
-        v = step(tail, p, v);
+        v = step(tail, preds, v);
         k += 1;
     }
-    m <= p[v] as usize
+    count <= preds[v] as usize
 }
 
 // The register as many steps back from s as there are registers. Where the preds go on so far, it is on a circle.
@@ -51,18 +48,18 @@ fn onto(
     head: &[u16],
     amount: &[i32],
     n: usize,
-    m: usize,
-    p: &[u16],
+    count: usize,
+    preds: &[u16],
     s: usize,
 ) -> usize
-    requires { ⌜ Shape (arrows n m (now tail) (now head) (now amount)) ⌝ }
-    requires { ⌜ (length (now p) ≡ n) × (s < n) × (Arrowed (arrows n m (now tail) (now head) (now amount)) (now p) n s) ⌝ }
-    ensures { λ r. ⌜ r ≡ back (arrows n m (now (tail .entry)) (now (head .entry)) (now (amount .entry))) (now (p .entry)) n s ⌝ }
+    requires { ⌜ Unending (arrows n count (now tail) (now head) (now amount)) (now preds) s ⌝ }
+    ensures { λ r. ⌜ r ≡ back (arrows n count (now (tail .entry)) (now (head .entry)) (now (amount .entry))) (now (preds .entry)) n s ⌝ }
 {
     let mut k = 0;
     let mut v = s;
+    // v is k steps back from s (`Gone`).
     while k < n {
-        v = step(tail, p, v);
+        v = step(tail, preds, v);
         k += 1;
     }
     v
@@ -74,19 +71,19 @@ fn lowest(
     head: &[u16],
     amount: &[i32],
     n: usize,
-    m: usize,
-    p: &[u16],
+    count: usize,
+    preds: &[u16],
     s: usize,
 ) -> usize
-    requires { ⌜ Shape (arrows n m (now tail) (now head) (now amount)) ⌝ }
-    requires { ⌜ (length (now p) ≡ n) × (s < n) × (Arrowed (arrows n m (now tail) (now head) (now amount)) (now p) n s) ⌝ }
-    ensures { λ r. ⌜ r ≡ lowest (arrows n m (now (tail .entry)) (now (head .entry)) (now (amount .entry))) (now (p .entry)) n s ⌝ }
+    requires { ⌜ Unending (arrows n count (now tail) (now head) (now amount)) (now preds) s ⌝ }
+    ensures { λ r. ⌜ r ≡ lowest (arrows n count (now (tail .entry)) (now (head .entry)) (now (amount .entry))) (now (preds .entry)) n s ⌝ }
 {
     let mut k = 0;
     let mut v = s;
     let mut low = s;
+    // v is k steps back from s, and low the lowest register met so far (`Lowered`).
     while k < n {
-        v = step(tail, p, v);
+        v = step(tail, preds, v);
         k += 1;
         if v < low {
             low = v;
@@ -101,19 +98,19 @@ fn around(
     head: &[u16],
     amount: &[i32],
     n: usize,
-    m: usize,
-    p: &[u16],
+    count: usize,
+    preds: &[u16],
     s: usize,
 ) -> usize
-    requires { ⌜ Shape (arrows n m (now tail) (now head) (now amount)) ⌝ }
-    requires { ⌜ (length (now p) ≡ n) × (s < n) ⌝ }
-    ensures { λ r. ⌜ r ≡ around (arrows n m (now (tail .entry)) (now (head .entry)) (now (amount .entry))) (now (p .entry)) s n 0 s ⌝ }
+    requires { ⌜ Followable (arrows n count (now tail) (now head) (now amount)) (now preds) s ⌝ }
+    ensures { λ r. ⌜ r ≡ around (arrows n count (now (tail .entry)) (now (head .entry)) (now (amount .entry))) (now (preds .entry)) s n 0 s ⌝ }
 {
     let mut k = 0;
     let mut v = s;
+    // After k steps the walk stands at v, and what the model's search answers is what it answers from there (`Circling`).
     while k < n {
-        let e = p[v] as usize;
-        if e >= m {
+        let e = preds[v] as usize;
+        if e >= count {
             return 0;
         }
         v = tail[e] as usize;
@@ -126,9 +123,9 @@ fn around(
 }
 
 // A circle by its lowest register and the steps that it takes.
-pub struct Ring {
-    pub start: usize,
-    pub steps: usize,
+struct Cycle {
+    start: usize,
+    steps: usize,
 }
 
 // The circle on which the walk back from s ends, where s is not grounded: onto it, to its lowest register, and once around.
@@ -137,18 +134,17 @@ fn circle(
     head: &[u16],
     amount: &[i32],
     n: usize,
-    m: usize,
-    p: &[u16],
+    count: usize,
+    preds: &[u16],
     s: usize,
-) -> Ring
-    requires { ⌜ Shape (arrows n m (now tail) (now head) (now amount)) ⌝ }
-    requires { ⌜ (length (now p) ≡ n) × (s < n) × (rooted (arrows n m (now tail) (now head) (now amount)) (now p) n s ≡ false) ⌝ }
-    ensures { λ r. ⌜ IsCircle (arrows n m (now (tail .entry)) (now (head .entry)) (now (amount .entry))) (now (p .entry)) s (r .start) (r .steps) ⌝ }
+) -> Cycle
+    requires { ⌜ Astray (arrows n count (now tail) (now head) (now amount)) (now preds) s ⌝ }
+    ensures { λ r. ⌜ IsCircle (arrows n count (now (tail .entry)) (now (head .entry)) (now (amount .entry))) (now (preds .entry)) s (r .start) (r .steps) ⌝ }
 {
-    let v = onto(tail, head, amount, n, m, p, s);
-    let low = lowest(tail, head, amount, n, m, p, v);
-    let steps = around(tail, head, amount, n, m, p, low);
-    Ring {
+    let v = onto(tail, head, amount, n, count, preds, s);
+    let low = lowest(tail, head, amount, n, count, preds, v);
+    let steps = around(tail, head, amount, n, count, preds, low);
+    Cycle {
         start: low,
         steps: steps,
     }
@@ -160,23 +156,22 @@ fn list(
     head: &[u16],
     amount: &[i32],
     n: usize,
-    m: usize,
-    p: &[u16],
+    count: usize,
+    preds: &[u16],
     start: usize,
     steps: usize,
-    out: &mut [u16],
+    ring: &mut [u16],
 )
-    requires { ⌜ Shape (arrows n m (now tail) (now head) (now amount)) ⌝ }
-    requires { ⌜ (length (now p) ≡ n) × (start < n) × (steps ≤ length (now out)) ⌝ }
-    requires { ⌜ Arrowed (arrows n m (now tail) (now head) (now amount)) (now p) steps start ⌝ }
-    ensures { λ _. ⌜ now (out .exit) ≡ trail (arrows n m (now (tail .entry)) (now (head .entry)) (now (amount .entry))) (now (p .entry)) steps start ++ drop steps (now (out .entry)) ⌝ }
+    requires { ⌜ RingRoom (arrows n count (now tail) (now head) (now amount)) (now preds) start steps (now ring) ⌝ }
+    ensures { λ _. ⌜ now (ring .exit) ≡ trail (arrows n count (now (tail .entry)) (now (head .entry)) (now (amount .entry))) (now (preds .entry)) steps start ++ drop steps (now (ring .entry)) ⌝ }
 {
     let mut v = start;
     let mut k = steps;
+    // k places are left to write; behind them stand the arrows of the steps taken (`RingListing`).
     while k > 0 {
         k -= 1;
-        let e = p[v];
-        out[k] = e;
+        let e = preds[v];
+        ring[k] = e;
         v = tail[e as usize] as usize;
     }
 }
@@ -187,17 +182,26 @@ pub fn show(
     head: &[u16],
     amount: &[i32],
     n: usize,
-    m: usize,
-    p: &[u16],
+    count: usize,
+    preds: &[u16],
     s: usize,
-    out: &mut [u16],
+    ring: &mut [u16],
 ) -> usize
-    requires { ⌜ Shape (arrows n m (now tail) (now head) (now amount)) ⌝ }
-    requires { ⌜ (length (now p) ≡ n) × (n ≤ length (now out)) × (s < n) × (rooted (arrows n m (now tail) (now head) (now amount)) (now p) n s ≡ false) ⌝ }
-    ensures { λ r. ⌜ (0 < r) × (r ≤ n) × (take r (now (out .exit)) ≡ circleArrows (arrows n m (now (tail .entry)) (now (head .entry)) (now (amount .entry))) (now (p .entry)) s) ⌝ }
+    requires { ⌜ Showable (arrows n count (now tail) (now head) (now amount)) (now preds) s (now ring) ⌝ }
+    ensures { λ r. ⌜ ShowsCircle (arrows n count (now (tail .entry)) (now (head .entry)) (now (amount .entry))) (now (preds .entry)) s (now (ring .exit)) r ⌝ }
 {
-    let ring = circle(tail, head, amount, n, m, p, s);
-    let steps = ring.steps;
-    list(tail, head, amount, n, m, p, ring.start, steps, out);
+    let cycle = circle(tail, head, amount, n, count, preds, s);
+    let steps = cycle.steps;
+    list(
+        tail,
+        head,
+        amount,
+        n,
+        count,
+        preds,
+        cycle.start,
+        steps,
+        ring,
+    );
     steps
 }

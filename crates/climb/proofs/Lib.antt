@@ -1,5 +1,5 @@
--- For callers: `Begins`.
+-- For callers: `at-least` and `held-nameable` of `Attempts`.
 pub mod Trials
 pub mod Attempts
-pub mod Goings
 pub mod Begins
+pub mod Goings

@@ -1,26 +1,20 @@
--- A relaxation at the period that is tried, and each of its ends, in the paper's words.
-use mathlib.Core.Path.{_≡_, refl, sym, ap, _∙_}
-use mathlib.Core.Logic.{_↔_}
-use mathlib.Core.List.{List, map}
+-- A relaxation at the period that is tried, and each of its ends, in the paper's words. Rests on `Families`, `Climbs` and `Rules` of `loops`.
+use mathlib.Core.Path.{_≡_, sym, subst, _∙_}
+use mathlib.Core.List.{List, _++_, map}
 use Prim.Native.Nat.{ℕ, _-_, _≤_, _<_}
 use native.Mathlib.Omega.{arith}
 use native.Mathlib.Decide.{ℕ-discrete}
 use lib.ListN.{length, take}
 use lib.IntN.{ℤ, pos}
-use lib.Signed.{_≤ℤ_, _<ℤ_}
-use Rattle.whole.specs.Sums.{total}
-use Rattle.whole.proofs.Lin.{lin}
 use Rattle.paper.specs.Network.{Network}
-use Rattle.paper.specs.Rules.{amount}
+use Rattle.paper.specs.Rules.{Rule, amount}
 use Rattle.paper.specs.File.{natural}
-use Rattle.paper.specs.Chains.{All}
 use Rattle.paper.specs.Schedule.{setups}
-use Rattle.paper.specs.Output.{LoopAlone}
+use Rattle.paper.specs.Output.{Front, LoopAlone, skewRecord, latencyRecords, entryRecords}
 use Rattle.paper.specs.declared.Outcome.the-variants as outcome
-use Rattle.paper.proofs.Legal.{Legal, natural-is}
 use Rattle.loops.specs.Arrows.{Arrows}
 use Rattle.loops.specs.Webs.{Scheduled}
-use Rattle.loops.specs.Family.{Row, Lays, Refutes, webAt}
+use Rattle.loops.specs.Family.{Enumerates, Lays, Refutes, webAt}
 use Rattle.loops.specs.Climbing.{Raises, Climbing}
 use Rattle.loops.specs.RuleFamily.{graphOf, rules}
 use Rattle.loops.specs.Names.{named}
@@ -29,12 +23,18 @@ use Rattle.loops.specs.Model.{at}
 use Rattle.loops.proofs.Families.{refutes-none-to}
 use Rattle.loops.proofs.Climbs.{climbing-at, climbing-answers, trial-refutes, refutes-unfixed, raised-refutes}
 use Rattle.loops.proofs.Rules.{rules-lawful, fixed-setups, best-answer, shown-rules, refutes-rules, none-rules, some-rules}
-use Rattle.rounds.specs.Relaxation.{Rests, Shows}
+use Rattle.rounds.specs.Relaxation.{Rests, ShowsLoop}
 use Rattle.answer.specs.Records.{AnswerBytes}
 use Rattle.climb.specs.Known.{Tries}
 use Rattle.climb.specs.Solved.{Solved}
 
-module _ (N : Network) (kinds numbers : List ℕ) (some : (Q : ℕ) × Scheduled (webAt (rules N) Q)) (row : Row (graphOf N) (named kinds numbers) (ruleCount N)) (period : ℤ)
+-- the bytes of an answer are the paper's
+answer-bytes : {P n : ℕ} {period : ℤ} {names : List ℤ} {loop : List Rule} {before after : List ℕ} → period ≡ pos P → length names ≡ n
+    → AnswerBytes period names loop before after → Front (skewRecord P n (length loop) ++ latencyRecords (at names) n ++ entryRecords loop) before after
+answer-bytes {P} {n} {period} {names} {loop} {before} {after} is long bytes =
+    subst (λ (m : ℕ). Front (skewRecord P m (length loop) ++ latencyRecords (at names) m ++ entryRecords loop) before after) long ((rw is at bytes) .front)
+
+module _ (N : Network) (kinds numbers : List ℕ) (some : (Q : ℕ) × Scheduled (webAt (rules N) Q)) (names : Enumerates (graphOf N) (named kinds numbers) (ruleCount N)) (period : ℤ)
     (Γ : Arrows) (whole : Γ .count ≡ ruleCount N) (lays : Lays (graphOf N) (named kinds numbers) (amount N (natural period)) Γ) where
   -- the period that is tried
   abbrev P : ℕ
@@ -51,21 +51,22 @@ module _ (N : Network) (kinds numbers : List ℕ) (some : (Q : ℕ) × Scheduled
         loop = map (named kinds numbers) (take kept ring);
         answer =
             best-answer N P (at times)
-            (climbing-answers (rules N) (rules-lawful N) (named kinds numbers) (ruleCount N) (N .floor) (N .ceiling) P Γ whole row lays ring kept c (at times) (r .least));
+            (climbing-answers (rules N) (rules-lawful N) (named kinds numbers) (ruleCount N) (N .floor) (N .ceiling) P Γ whole names lays ring kept c (at times) (r .least));
         shown = shown-rules N P (map (named kinds numbers) (take kept ring)) (c .shown);
-        bytes = bytes P (N .registers) (t .is) (r .long ∙ lays .registers);
+        bytes = answer-bytes (t .is) (r .long ∙ lays .registers) bytes;
       }
 
   -- a loop was found
-  module _ (ring : List ℕ) (entries : ℕ) (s : Shows Γ (take entries ring)) where
+  module _ (ring : List ℕ) (entries : ℕ) (s : ShowsLoop Γ (take entries ring)) where
     abbrev loop : List ℕ
     loop = take entries ring
 
+    -- the loop contradicts itself at the period
     pub trial-loop : Refutes (rules N) P (map (named kinds numbers) (take entries ring))
     trial-loop =
-        trial-refutes (rules N) (rules-lawful N) (named kinds numbers) (ruleCount N) (N .floor) (N .ceiling) P Γ whole row lays (take entries ring) (s .contradicts) (s .listed)
+        trial-refutes (rules N) (rules-lawful N) (named kinds numbers) (ruleCount N) (N .floor) (N .ceiling) P Γ whole names lays (take entries ring) (s .contradicts) (s .listed)
 
-    -- Some period has a schedule, so a loop without setup rules cannot contradict itself: this one has a setup rule.
+    -- some period has a schedule, so a loop without setup rules cannot contradict itself: this one has a setup rule
     pub trial-setups : 0 < setups (map (named kinds numbers) (take entries ring))
     trial-setups = go (ℕ-discrete (setups (map (named kinds numbers) (take entries ring))) 0)
       where

@@ -5,7 +5,7 @@ use Prim.Native.Nat.{ℕ}
 use lib.IntN.{ℤ, pos}
 use Rattle.paper.specs.Network.{Network}
 use Rattle.paper.specs.File.{natural}
-use Rattle.paper.proofs.Legal.{Legal}
+use Rattle.paper.specs.Legal.{Legal}
 use Rattle.loops.specs.Webs.{Scheduled}
 use Rattle.loops.specs.Family.{webAt}
 use Rattle.loops.specs.Climbing.{Climbing}
@@ -17,11 +17,15 @@ use Rattle.network.specs.Records.{IsHeader}
 use Rattle.arrows.specs.Filled.{lists, Filled}
 
 module _ (N : Network) (h : Header) (kinds numbers tails heads : List ℕ) where
-  -- the lists hold the rules of N, whose fields lie in their ranges, and some period has a schedule
-  pub record Known (amounts bases : List ℤ) : Type 0 where
+  -- the lists hold the rules of N, whose fields lie in their ranges
+  pub record Held (amounts bases : List ℤ) : Type 0 where
     pub legal : Legal N
     pub header : IsHeader N h
     pub filled : Filled N (lists kinds numbers tails heads) amounts bases
+
+  -- and some period has a schedule
+  pub record Known (amounts bases : List ℤ) : Type 0 where
+    pub held : Held amounts bases
     pub some : (Q : ℕ) × Scheduled (webAt (rules N) Q)
 
 -- the number in hand is a period of N that may be tried, and the first `kept` places of `ring` are a loop that shows why no smaller one has a

@@ -1,4 +1,5 @@
 pub mod Known
 pub mod Begin
+pub mod Conclusion
 pub mod Trial
 pub mod Solved

@@ -1,15 +1,20 @@
-// The climb to the smallest period: from a period that no smaller one precedes, each loop that is found leads to the next period to try.
-ghost use Rattle.climb.specs.Trial.{Lent, Trials, Climbed};
+// The climb to the smallest period: from a period below which none has a schedule, each loop that is found leads to the next period to try.
+ghost use Rattle.climb.specs.Trial.{Climbable, Climbed};
 
-mod attempt;
-pub mod begin;
+mod begin;
+mod trial;
 
-use attempt::Tried;
-use attempt::attempt;
+use arrows::at_period;
+use begin::begin;
 use network::Header;
 use paper::Outcome;
+use rounds::relax::resume;
+use trial::Tried;
+use trial::conclude;
 
-// From the period at which the climb begins up. The loop that is kept contradicts itself at the period before the one that is tried.
+// Where some period has a schedule: finds where to begin, and goes from trial to trial. Each trial but the first is at a longer period than the
+// one before and none lies above the ceiling, so that there are at most ceiling - floor + 1 of them; the benchmark's networks take a few, and
+// those that are made to take many 33. Each takes one pass over the paths for the amounts and one relaxation of all rules.
 pub fn climb(
     h: Header,
     kind: &[u8],
@@ -18,50 +23,63 @@ pub fn climb(
     head: &[u16],
     amount: &mut [i32],
     base: &[i32],
-    row: &[i32],
-    preds: &[u16],
+    kept_row: &[i32],
+    kept_preds: &[u16],
     passed: usize,
     a: &mut [i32],
     b: &mut [i32],
-    p: &mut [u16],
+    preds: &mut [u16],
     ring: &mut [u16],
     out: &mut [u8],
-    begun: i32,
-    shown: usize,
 ) -> Outcome
-    requires { ⌜ Trials h (now kind) (now number) (now tail) (now head) (now amount) (now base) begun (now ring) shown ⌝ }
-    requires { ⌜ Lent h (now tail) (now head) (now amount) (now row) (now preds) passed (now a) (now b) (now p) (now ring) (now out) ⌝ }
-    ensures { λ r. ⌜ Climbed h (now (kind .entry)) (now (number .entry)) (now (tail .entry)) (now (head .entry)) (now (amount .entry)) (now (base .entry)) begun (now (ring .entry)) shown (now (out .entry)) (now (out .exit)) r ⌝ }
+    requires { ⌜ Climbable h (now kind) (now number) (now tail) (now head) (now amount) (now base) (now «kept_row») (now «kept_preds») passed (now a) (now b) (now preds) (now ring) (now out) ⌝ }
+    ensures { λ r. ⌜ Climbed h (now (kind .entry)) (now (number .entry)) (now (tail .entry)) (now (head .entry)) (now (amount .entry)) (now (base .entry)) (now (out .entry)) (now (out .exit)) r ⌝ }
 {
-    let mut period = begun;
-    let mut kept = shown;
+    let start = begin(h, kind, tail, head, amount, base, preds, ring);
+    let mut period = start.period;
+    let mut kept = start.kept;
+    // The period lies from floor to ceiling, and the first `kept` entries of `ring` are a loop that contradicts itself at the period before; the
+    // output is untouched.
     loop {
-        let t = attempt(
-            h,
-            kind,
-            number,
+        let n = h.registers;
+        let m = h.paths;
+        let ceiling = h.ceiling;
+        let all = places::all(n, m);
+        at_period(n, m, period, amount, base);
+        let mut entries = 0;
+        let last = resume(
             tail,
             head,
             amount,
-            base,
-            row,
-            preds,
+            n,
+            all,
             passed,
+            kept_row,
+            kept_preds,
             a,
             b,
-            p,
+            preds,
             ring,
+            &mut entries,
+        );
+        match conclude(
+            kind,
+            number,
+            amount,
+            last,
+            ring,
+            entries,
             out,
+            ceiling,
             period,
             kept,
-        );
-        match t {
+        ) {
             Tried::Ends(o) => {
                 return o;
             }
-            Tried::Next(above, entries) => {
+            Tried::Next(above, found) => {
                 period = above;
-                kept = entries;
+                kept = found;
             }
         }
     }

@@ -1,38 +1,27 @@
--- Which of two arrows is noted, and that what is noted at a register is an arrow into it.
+-- What is noted at a register is an arrow into it.
 use mathlib.Core.Path.{_≡_, refl, ap, _∙_}
-use mathlib.Core.Bool.{true}
 use mathlib.Core.List.{List}
-use Prim.Native.Nat.{ℕ, _≤_, _<_}
+use Prim.Native.Nat.{ℕ, _<_}
 use native.Mathlib.Omega.{arith}
 use native.Mathlib.Decide.{ℕ-discrete}
-use lib.ListN.{length, getD, set, length-set}
+use lib.ListN.{set, length-set}
 use lib.Seq.{getD-set-same, getD-set-other}
-use lib.IntN.{ℤ, pos}
-use lib.Signed.{ltZ}
-use borrow.Author.Tests.{lt-ltb, le-ltb}
 use Rattle.loops.specs.Arrows.{Arrows, head}
 use Rattle.loops.specs.Model.{pred}
 use Rattle.loops.specs.Shape.{Shape}
-use Rattle.guess.specs.Guessing.{Cleared, heavier, Chosen}
+use Rattle.guess.specs.Guessing.{Cleared, Chosen}
 
-module _ (amounts : List ℤ) (count old e : ℕ) where
-  pub heavier-none : count ≤ old → true ≡ heavier amounts count old e
-  heavier-none h = rw (le-ltb old count h, heavier) refl
-
-  pub heavier-old : old < count → (x y : ℤ) → x ≡ getD amounts old (pos 0) → y ≡ getD amounts e (pos 0) → ltZ x y ≡ heavier amounts count old e
-  heavier-old h x y a b = rw (a, b, lt-ltb old count h, heavier) refl
-
-module _ (Γ : Arrows) (p : List ℕ) where
+module _ (Γ : Arrows) (preds : List ℕ) where
   -- no pred is an arrow, so nothing is asked of any
-  pub cleared-chosen : Shape Γ → Cleared (Γ .registers) p → Chosen Γ p
+  pub cleared-chosen : Shape Γ → Cleared (Γ .registers) preds → Chosen Γ preds
   cleared-chosen shape c = record { long = c .long; into = λ v b a. absurd (let e = c .none v b in let m = shape .named in omega arith) }
 
   -- an arrow is noted at its head
-  pub chosen-more : (e : ℕ) → head Γ e < Γ .registers → Chosen Γ p → Chosen Γ (set p (head Γ e) e)
-  chosen-more e b c = record { long = length-set p (head Γ e) _ ∙ c .long; into = λ v q a. go v q a (ℕ-discrete v (head Γ e)) }
+  pub chosen-more : (e : ℕ) → head Γ e < Γ .registers → Chosen Γ preds → Chosen Γ (set preds (head Γ e) e)
+  chosen-more e b c = record { long = length-set preds (head Γ e) _ ∙ c .long; into = λ v q a. go v q a (ℕ-discrete v (head Γ e)) }
     where
-      go : (v : ℕ) → v < Γ .registers → pred (set p (head Γ e) e) v < Γ .count → Dec (v ≡ head Γ e) → head Γ (pred (set p (head Γ e) e) v) ≡ v
-      go v q a (yes s) = rw (s, getD-set-same p (head Γ e) e 0 (let l = c .long in omega arith)) refl
+      go : (v : ℕ) → v < Γ .registers → pred (set preds (head Γ e) e) v < Γ .count → Dec (v ≡ head Γ e) → head Γ (pred (set preds (head Γ e) e) v) ≡ v
+      go v q a (yes s) = rw (s, getD-set-same preds (head Γ e) e 0 (let l = c .long in omega arith)) refl
       go v q a (no s) =
-          let same = getD-set-other p (head Γ e) v e 0 s in
+          let same = getD-set-other preds (head Γ e) v e 0 s in
           ap (head Γ) same ∙ c .into v q (rw same at a)

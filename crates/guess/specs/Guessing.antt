@@ -1,29 +1,33 @@
--- A first loop of the heaviest arrows: which arrow is noted at a register, and what the loop among the noted arrows shows.
+-- A first loop of heavy arrows: what is asked of the arrow that is noted at a register, and what the loop among the noted arrows shows.
 use mathlib.Core.Path.{_≡_}
-use mathlib.Core.Bool.{Bool, true, false}
 use mathlib.Core.List.{List}
 use Prim.Native.Nat.{ℕ, _≤_, _<_}
-use lib.ListN.{length, take, getD}
-use lib.IntN.{ℤ, pos}
-use lib.Signed.{ltZ}
-use lib.Dec.{ltb}
+use lib.ListN.{length, take}
 use Rattle.paper.specs.Chains.{Listed}
 use Rattle.loops.specs.Arrows.{Arrows, Contradicts, tail, head}
 use Rattle.loops.specs.Model.{pred}
+use Rattle.loops.specs.Shape.{Shape, noArrow}
 
 -- no register has a pred: 65,535 names no arrow
-pub record Cleared (n : ℕ) (p : List ℕ) : Type 0 where
-  pub long : length p ≡ n
-  pub none : (v : ℕ) → v < n → pred p v ≡ 65535
-
--- whether arrow e weighs more than the arrow `old`, or there is no such arrow among the first `count`
-abbrev pub heavier : List ℤ → ℕ → ℕ → ℕ → Bool
-heavier amounts count old e = elim (ltb old count) [ true ↦ ltZ (getD amounts old (pos 0)) (getD amounts e (pos 0)) | false ↦ true ]
+pub record Cleared (n : ℕ) (preds : List ℕ) : Type 0 where
+  pub long : length preds ≡ n
+  pub none : (v : ℕ) → v < n → pred preds v ≡ noArrow
 
 -- each pred that is an arrow leads into its register
-pub record Chosen (Γ : Arrows) (p : List ℕ) : Type 0 where
-  pub long : length p ≡ Γ .registers
-  pub into : (v : ℕ) → v < Γ .registers → pred p v < Γ .count → head Γ (pred p v) ≡ v
+pub record Chosen (Γ : Arrows) (preds : List ℕ) : Type 0 where
+  pub long : length preds ≡ Γ .registers
+  pub into : (v : ℕ) → v < Γ .registers → pred preds v < Γ .count → head Γ (pred preds v) ≡ v
+
+-- and arrows may be noted in their place
+pub record Choosable (Γ : Arrows) (preds : List ℕ) : Type 0 where
+  pub shape : Shape Γ
+  pub chosen : Chosen Γ preds
+
+-- room for the preds and for any loop's entries
+pub record Guessable (Γ : Arrows) (preds ring : List ℕ) : Type 0 where
+  pub shape : Shape Γ
+  pub preds-long : length preds ≡ Γ .registers
+  pub room : Γ .registers ≤ length ring
 
 -- no entries, or those of a loop that contradicts itself, listed from its lowest register
 pub record Guessed (Γ : Arrows) (ring : List ℕ) (entries : ℕ) : Type 0 where

@@ -4,30 +4,30 @@ ghost use mathlib.Core.Path.{_≡_};
 ghost use Prim.Native.Nat.{_≤_, _<_};
 ghost use lib.ListN.{length};
 ghost use Rattle.loops.specs.Arrows.{arrows};
-ghost use Rattle.loops.specs.Shape.{Shape};
-ghost use Rattle.guess.specs.Guessing.{Cleared, heavier, Chosen, Guessed};
+ghost use Rattle.guess.specs.Guessing.{Cleared, Chosen, Choosable, Guessable, Guessed};
 use circles::grounded;
 use circles::show;
+use loops::NO_ARROW;
 use needs::total_of;
 
 // No register has a pred: 65,535 names no arrow.
-fn clear(p: &mut [u16], n: usize)
-    requires { ⌜ length (now p) ≡ n ⌝ }
-    ensures { λ _. ⌜ Cleared n (now (p .exit)) ⌝ }
+fn clear(preds: &mut [u16], n: usize)
+    requires { ⌜ length (now preds) ≡ n ⌝ }
+    ensures { λ _. ⌜ Cleared n (now (preds .exit)) ⌝ }
 {
     let mut v = 0;
+    // The registers below v have no pred (`ClearedTo`).
     while v < n {
-        p[v] = 65535;
+        preds[v] = NO_ARROW;
         v += 1;
     }
 }
 
-// Whether arrow e is to take the place of `old`: there is no such arrow, or e is heavier.
-fn is_heavier(amount: &[i32], m: usize, old: usize, e: usize) -> bool
-    requires { ⌜ (m ≤ length (now amount)) × (e < m) ⌝ }
-    ensures { λ r. ⌜ r ≡ heavier (now (amount .entry)) m old e ⌝ }
+// Whether arrow e is to take the place of `old`: there is no such arrow, or e is heavier. Nothing is promised of the answer.
+fn is_heavier(amount: &[i32], count: usize, old: usize, e: usize) -> bool
+    requires { ⌜ (count ≤ length (now amount)) × (e < count) ⌝ }
 {
-    if m <= old {
+    if count <= old {
         return true;
     }
     amount[old] < amount[e]
@@ -39,20 +39,20 @@ fn choose(
     head: &[u16],
     amount: &[i32],
     n: usize,
-    m: usize,
+    count: usize,
     from: usize,
-    p: &mut [u16],
+    preds: &mut [u16],
 )
-    requires { ⌜ Shape (arrows n m (now tail) (now head) (now amount)) ⌝ }
-    requires { ⌜ Chosen (arrows n m (now tail) (now head) (now amount)) (now p) ⌝ }
-    ensures { λ _. ⌜ Chosen (arrows n m (now (tail .entry)) (now (head .entry)) (now (amount .entry))) (now (p .exit)) ⌝ }
+    requires { ⌜ Choosable (arrows n count (now tail) (now head) (now amount)) (now preds) ⌝ }
+    ensures { λ _. ⌜ Chosen (arrows n count (now (tail .entry)) (now (head .entry)) (now (amount .entry))) (now (preds .exit)) ⌝ }
 {
     let mut e = from;
-    while e < m {
+    // Each pred that is an arrow leads into its register (`Chosen`).
+    while e < count {
         let v = head[e] as usize;
-        let old = p[v] as usize;
-        if is_heavier(amount, m, old, e) {
-            p[v] = e as u16;
+        let old = preds[v] as usize;
+        if is_heavier(amount, count, old, e) {
+            preds[v] = e as u16;
         }
         e += 1;
     }
@@ -65,22 +65,21 @@ pub fn guess(
     head: &[u16],
     amount: &[i32],
     n: usize,
-    m: usize,
+    count: usize,
     from: usize,
-    p: &mut [u16],
+    preds: &mut [u16],
     ring: &mut [u16],
 ) -> usize
-    requires { ⌜ Shape (arrows n m (now tail) (now head) (now amount)) ⌝ }
-    requires { ⌜ (length (now p) ≡ n) × (n ≤ length (now ring)) ⌝ }
-    ensures { λ r. ⌜ Guessed (arrows n m (now (tail .entry)) (now (head .entry)) (now (amount .entry))) (now (ring .exit)) r ⌝ }
+    requires { ⌜ Guessable (arrows n count (now tail) (now head) (now amount)) (now preds) (now ring) ⌝ }
+    ensures { λ r. ⌜ Guessed (arrows n count (now (tail .entry)) (now (head .entry)) (now (amount .entry))) (now (ring .exit)) r ⌝ }
 {
-    clear(p, n);
-    choose(tail, head, amount, n, m, from, p);
+    clear(preds, n);
+    choose(tail, head, amount, n, count, from, preds);
     let s = n - 1;
-    if grounded(tail, head, amount, n, m, p, s) {
+    if grounded(tail, head, amount, n, count, preds, s) {
         return 0;
     }
-    let entries = show(tail, head, amount, n, m, p, s, ring);
+    let entries = show(tail, head, amount, n, count, preds, s, ring);
     if 0 < total_of(amount, ring, entries) {
         return entries;
     }

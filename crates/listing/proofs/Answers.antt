@@ -1,4 +1,4 @@
--- The answers of the paper can be listed: what an answer's bytes say is what a listing asks of them.
+-- The answers of the paper can be listed: what an answer's bytes say is what a listing asks of them. Rests on `OutputLaws.antt` of `paper`.
 use mathlib.Core.Path.{_≡_, _∙_}
 use mathlib.Core.List.{List, _++_, append-assoc}
 use Prim.Native.Nat.{ℕ, _+_, _≤_, _<_}
@@ -10,6 +10,7 @@ use Rattle.paper.specs.Output.{skewRecord, latencyRecords, entryRecords, LoopAl
 use Rattle.paper.proofs.OutputLaws.{skew-length, latencies-length, entries-length, period-back, latencies-back, entries-back}
 use Rattle.listing.specs.Listable.{FullAnswer, LoopAnswer}
 
+-- an answer of a small network
 pub answered-listable : (N : Network) (before after : List ℕ) (a : Answered N before after)
     → a .period < 2147483648 → N .registers ≤ 256 → length (a .loop) ≤ 256 → FullAnswer after
 answered-listable N before after a h few entries =
@@ -43,9 +44,9 @@ answered-listable N before after a h few entries =
           ));
     }
 
-pub loop-listable : (file : List ℕ) (loop : List Rule) (before after : List ℕ) → LoopAlone loop before after
-    → length loop ≤ 256 → 18 ≤ length file → LoopAnswer file after
-loop-listable file loop before after a few header =
+-- a loop alone
+pub loop-listable : (loop : List Rule) (before after : List ℕ) → LoopAlone loop before after → length loop ≤ 256 → LoopAnswer after
+loop-listable loop before after a few =
     let k = length loop in
     let shown = entryRecords loop in
     let skew = skewRecord 0 0 k in
@@ -57,5 +58,4 @@ loop-listable file loop before after a few header =
       entries-are = rw e (entries-back 0 0 k rest (omega arith));
       few-entries = few;
       within = rw e (omega (arith, skew-length 0 0 k, length-append skew rest, length-append shown behind, entries-length loop));
-      header = header;
     }

@@ -1,8 +1,8 @@
--- The paper's sample, byte for byte: the listing of network A, from its answer and whatever stands behind it. And two refusals.
+-- The paper's sample, byte for byte: the listing of network A, from its answer and whatever stands behind it. And two refusals. Rests on no other file.
 use mathlib.Core.Path.{_≡_, refl}
 use mathlib.Core.List.{List, [], _∷_, _++_}
 use Prim.Native.Nat.{ℕ}
-use lib.IntN.{pos, negsuc}
+use lib.IntN.{ℤ, pos, negsuc}
 use Rattle.whole.specs.Four.{numberAt, wordAt, signedOf, wordOf, bytesOf, four}
 use Rattle.paper.specs.declared.Fault.the-variants as fault
 use Rattle.paper.specs.declared.Refusal.the-variants as refusal
@@ -26,7 +26,7 @@ answerOfA =
 -- loop 8
 -- setup 0
 -- hold 0
-pub listing-of-A : (file rest : List ℕ) → textOf file outcome.Answered (answerOfA ++ rest)
+pub listing-of-A : (ceiling : ℤ) (rest : List ℕ) → textOf ceiling outcome.Answered (answerOfA ++ rest)
     ≡ 112 ∷ 101 ∷ 114 ∷ 105 ∷ 111 ∷ 100 ∷ 32 ∷ 57 ∷ 10
     ∷ 108 ∷ 97 ∷ 116 ∷ 101 ∷ 110 ∷ 99 ∷ 121 ∷ 32 ∷ 48 ∷ 32 ∷ 48 ∷ 10
     ∷ 108 ∷ 97 ∷ 116 ∷ 101 ∷ 110 ∷ 99 ∷ 121 ∷ 32 ∷ 49 ∷ 32 ∷ 49 ∷ 10
@@ -35,24 +35,20 @@ pub listing-of-A : (file rest : List ℕ) → textOf file outcome.Answered (answ
     ∷ 115 ∷ 101 ∷ 116 ∷ 117 ∷ 112 ∷ 32 ∷ 48 ∷ 10
     ∷ 104 ∷ 111 ∷ 108 ∷ 100 ∷ 32 ∷ 48 ∷ 10 ∷ []
 unfolding answerOfA answeredText latencyLines entryLines kindWord digits decimal whole numberAt wordAt signedOf wordOf bytesOf four
-listing-of-A file rest = refl
+listing-of-A ceiling rest = refl
 
 -- refused 6 1027
-pub listing-of-a-path : (file answer : List ℕ) → textOf file (outcome.Refused (refusal.File (fault.Path 1027))) answer
+pub listing-of-a-path : (ceiling : ℤ) (answer : List ℕ) → textOf ceiling (outcome.Refused (refusal.File (fault.Path 1027))) answer
     ≡ 114 ∷ 101 ∷ 102 ∷ 117 ∷ 115 ∷ 101 ∷ 100 ∷ 32 ∷ 54 ∷ 32 ∷ 49 ∷ 48 ∷ 50 ∷ 55 ∷ 10 ∷ []
 unfolding digits decimal
-listing-of-a-path file answer = refl
-
--- a file of which only the ceiling, 10,000,000, is read
-unfoldable pub ceilingAlone : List ℕ
-ceilingAlone = 0 ∷ 0 ∷ (four (pos 0) ++ four (pos 0) ++ four (pos 0) ++ four (pos 10000000))
+listing-of-a-path ceiling answer = refl
 
 -- refused 8 0
 -- loop 10000000
 -- hold 0
-pub listing-of-no-period : (rest : List ℕ) → textOf ceilingAlone outcome.NoPeriod (skewRecord 0 0 1 ++ entryRecord (Rule.Hold 0) ++ rest)
+pub listing-of-no-period : (rest : List ℕ) → textOf (pos 10000000) outcome.NoPeriod (skewRecord 0 0 1 ++ entryRecord (Rule.Hold 0) ++ rest)
     ≡ 114 ∷ 101 ∷ 102 ∷ 117 ∷ 115 ∷ 101 ∷ 100 ∷ 32 ∷ 56 ∷ 32 ∷ 48 ∷ 10
     ∷ 108 ∷ 111 ∷ 111 ∷ 112 ∷ 32 ∷ 49 ∷ 48 ∷ 48 ∷ 48 ∷ 48 ∷ 48 ∷ 48 ∷ 48 ∷ 10
     ∷ 104 ∷ 111 ∷ 108 ∷ 100 ∷ 32 ∷ 48 ∷ 10 ∷ []
-unfolding ceilingAlone entryLines kindWord digits decimal whole numberAt wordAt signedOf wordOf bytesOf four
+unfolding entryLines kindWord digits decimal whole numberAt wordAt signedOf wordOf bytesOf four
 listing-of-no-period rest = refl

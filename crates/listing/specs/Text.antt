@@ -49,7 +49,7 @@ lowWord = 108 ∷ 111 ∷ 119 ∷ 32 ∷ []
 abbrev pub highWord : List ℕ
 highWord = 104 ∷ 105 ∷ 103 ∷ 104 ∷ 32 ∷ []
 
--- the kinds' names: 0 setup, 1 hold, 2 low, 3 high
+-- the kinds' names: 0 setup, 1 hold, 2 low, 3 high; any other number, which never occurs, is taken for 3
 unfoldable pub kindWord : ℤ → List ℕ
 kindWord (pos k) = cond (eqb k 0) setupWord (cond (eqb k 1) holdWord (cond (eqb k 2) lowWord highWord))
 kindWord (negsuc k) = highWord
@@ -59,12 +59,15 @@ kindWord (negsuc k) = highWord
 abbrev pub newline : List ℕ
 newline = 10 ∷ []
 
+-- a word and a number
 abbrev pub line : List ℕ → ℤ → List ℕ
 line word z = word ++ whole z ++ newline
 
+-- the latency of register i
 abbrev pub latencyLine : ℕ → ℤ → List ℕ
 latencyLine i z = latencyWord ++ decimal i ++ (32 ∷ []) ++ whole z ++ newline
 
+-- a refusal's number and place
 abbrev pub refusedLine : ℕ → ℕ → List ℕ
 refusedLine number place = refusedWord ++ decimal number ++ (32 ∷ []) ++ decimal place ++ newline
 
@@ -84,20 +87,20 @@ entryLines answer start (suc j) =
 abbrev pub loopLines : ℤ → List ℕ → ℕ → ℕ → List ℕ
 loopLines period answer start k = line loopWord period ++ entryLines answer start k
 
--- ---- the listing of an outcome, over the bytes of the file and of the answer
+-- ---- the listing of an outcome, over the network's ceiling and the bytes of the answer
 
+-- how many latencies and entries the answer's first record counts
 abbrev pub latencies : List ℕ → ℕ
 latencies answer = natural (numberAt answer 6)
 
 abbrev pub entries : List ℕ → ℕ
 entries answer = natural (numberAt answer 10)
 
-abbrev pub ceiling : List ℕ → ℤ
-ceiling file = numberAt file 14
-
+-- the line of an outcome that is no answer
 abbrev pub refused : Outcome → List ℕ
 refused o = refusedLine (outcomeNumber o) (outcomePlace o)
 
+-- the period, the latencies, and a loop where one is shown
 unfoldable pub answeredText : List ℕ → List ℕ
 answeredText answer =
     line periodWord (numberAt answer 2)
@@ -106,9 +109,14 @@ answeredText answer =
     []
     (loopLines (numberAt answer 2 -ℤ pos 1) answer (14 + 6 * latencies answer) (entries answer))
 
-abbrev pub textOf : List ℕ → Outcome → List ℕ → List ℕ
-textOf file outcome.Answered answer = answeredText answer
-textOf file (outcome.Refused x) answer = refused (outcome.Refused x)
-textOf file outcome.Room answer = refused outcome.Room
-textOf file outcome.NoPeriod answer = refused outcome.NoPeriod ++ loopLines (ceiling file) answer 14 (entries answer)
-textOf file outcome.NoneToCeiling answer = refused outcome.NoneToCeiling ++ loopLines (ceiling file) answer 14 (entries answer)
+-- a refusal, and the loop that it shows, with the ceiling
+abbrev pub loopedText : ℤ → Outcome → List ℕ → List ℕ
+loopedText ceiling o answer = refused o ++ loopLines ceiling answer 14 (entries answer)
+
+-- Of 8 and 9 alone the ceiling is part of the text.
+abbrev pub textOf : ℤ → Outcome → List ℕ → List ℕ
+textOf ceiling outcome.Answered answer = answeredText answer
+textOf ceiling (outcome.Refused x) answer = refused (outcome.Refused x)
+textOf ceiling outcome.Room answer = refused outcome.Room
+textOf ceiling outcome.NoPeriod answer = loopedText ceiling outcome.NoPeriod answer
+textOf ceiling outcome.NoneToCeiling answer = loopedText ceiling outcome.NoneToCeiling answer

@@ -1,26 +1,38 @@
-// The text of a listing, from a file, an outcome and the answer's bytes into a lent buffer. Each writer puts its bytes at a place and
-// returns the place behind them; its contract is `Written`, of the crate text, and a bound on the place behind the bytes.
+// The text of a listing, from an outcome, the network's ceiling and the answer's bytes, into a lent buffer. Each writer puts its bytes at a
+// place and returns the place behind them; its contract is `Ended`, of the crate text.
 ghost use mathlib.Core.Path.{_≡_};
 ghost use mathlib.Core.List.{_++_};
-ghost use Prim.Native.Nat.{_+_, _*_, _≤_, _<_};
+ghost use Prim.Native.Nat.{_+_, _*_, _≤_};
 ghost use lib.IntN.{pos};
 ghost use lib.ListN.{length};
-ghost use lib.Signed.{_≤ℤ_};
 ghost use Rattle.whole.specs.Four.{numberAt};
 ghost use Rattle.paper.specs.Output.{Front};
-ghost use Rattle.text.specs.Written.{Written};
-ghost use Rattle.listing.specs.Text.{line, latencyLine, refusedLine, latencyLines, entryLines, loopLines, kindWord, ceiling, entries, refused, answeredText, textOf};
-ghost use Rattle.listing.specs.Listable.{FullAnswer, LoopAnswer, Listable};
+ghost use Rattle.text.specs.Decimal.{decimal};
+ghost use Rattle.text.specs.Written.{Ended, Written};
+ghost use Rattle.listing.specs.Text.{line, latencyLine, refusedLine, latencyLines, entryLines, loopLines, kindWord, refused, answeredText, loopedText, textOf};
+ghost use Rattle.listing.specs.Listable.{FullAnswer, LoopAnswer, InRoom, Listable, LatencyRoom, LatenciesRoom, EntriesRoom, Countable, textRoom};
 use paper::Outcome;
 use paper::codes;
 use text::put_digits;
 use text::put_text;
 use text::put_whole;
 
+// The room that any text fits in.
+pub const TEXT_ROOM: usize = 16_384;
+
+// A word and a number from 0 up.
+fn put_count(text: &mut [u8], at: usize, word: &[u8], n: u64) -> usize
+    requires { ⌜ at + length (now word) + length (decimal n) ≤ length (now text) ⌝ }
+    ensures { λ r. ⌜ Written (now (text .entry)) at (now (word .entry) ++ decimal n) (now (text .exit)) r ⌝ }
+{
+    let next = put_text(text, at, word);
+    put_digits(text, next, n)
+}
+
 // A word, a number and a newline.
 fn put_line(text: &mut [u8], at: usize, word: &[u8], z: i32) -> usize
     requires { ⌜ at + length (now word) + 12 ≤ length (now text) ⌝ }
-    ensures { λ r. ⌜ (Written (now (text .entry)) at (line (now (word .entry)) z) (now (text .exit)) r) × (r ≤ at + length (now (word .entry)) + 12) ⌝ }
+    ensures { λ r. ⌜ Ended (now (text .entry)) at (line (now (word .entry)) z) (now (text .exit)) r (at + length (now (word .entry)) + 12) ⌝ }
 {
     let next = put_text(text, at, word);
     let end = put_whole(text, next, z);
@@ -29,26 +41,20 @@ fn put_line(text: &mut [u8], at: usize, word: &[u8], z: i32) -> usize
 }
 
 fn put_latency(text: &mut [u8], at: usize, i: usize, z: i32) -> usize
-    requires { ⌜ (at + 24 ≤ length (now text)) × (i < 256) ⌝ }
-    ensures { λ r. ⌜ (Written (now (text .entry)) at (latencyLine i z) (now (text .exit)) r) × (r ≤ at + 24) ⌝ }
+    requires { ⌜ LatencyRoom (now text) at i ⌝ }
+    ensures { λ r. ⌜ Ended (now (text .entry)) at (latencyLine i z) (now (text .exit)) r (at + 24) ⌝ }
 {
-    let name = put_text(text, at, b"latency ");
-    let register = put_digits(text, name, i as u64);
-    text[register] = b' ';
-    let end = put_whole(text, register + 1, z);
-    text[end] = b'\n';
-    end + 1
+    let next = put_count(text, at, b"latency ", i as u64);
+    put_line(text, next, b" ", z)
 }
 
 // The only line that stands at the text's start alone: its number may be any of 32 bits, its place any of 64.
 fn put_refused(text: &mut [u8], number: u32, place: usize) -> usize
     requires { ⌜ 40 ≤ length (now text) ⌝ }
-    ensures { λ r. ⌜ (Written (now (text .entry)) 0 (refusedLine number place) (now (text .exit)) r) × (r ≤ 40) ⌝ }
+    ensures { λ r. ⌜ Ended (now (text .entry)) 0 (refusedLine number place) (now (text .exit)) r 40 ⌝ }
 {
-    let name = put_text(text, 0, b"refused ");
-    let first = put_digits(text, name, number as u64);
-    text[first] = b' ';
-    let end = put_digits(text, first + 1, place as u64);
+    let next = put_count(text, 0, b"refused ", number as u64);
+    let end = put_count(text, next, b" ", place as u64);
     text[end] = b'\n';
     end + 1
 }
@@ -56,7 +62,7 @@ fn put_refused(text: &mut [u8], number: u32, place: usize) -> usize
 // The line of an outcome that is no answer.
 fn put_refusal(text: &mut [u8], o: Outcome) -> usize
     requires { ⌜ 40 ≤ length (now text) ⌝ }
-    ensures { λ r. ⌜ (Written (now (text .entry)) 0 (refused o) (now (text .exit)) r) × (r ≤ 40) ⌝ }
+    ensures { λ r. ⌜ Ended (now (text .entry)) 0 (refused o) (now (text .exit)) r 40 ⌝ }
 {
     let number = codes::outcome_number(o);
     let place = codes::outcome_place(o);
@@ -65,29 +71,23 @@ fn put_refusal(text: &mut [u8], o: Outcome) -> usize
 
 fn put_entry(text: &mut [u8], at: usize, kind: i32, number: i32) -> usize
     requires { ⌜ at + 24 ≤ length (now text) ⌝ }
-    ensures { λ r. ⌜ (Written (now (text .entry)) at (line (kindWord kind) number) (now (text .exit)) r) × (r ≤ at + 24) ⌝ }
+    ensures { λ r. ⌜ Ended (now (text .entry)) at (line (kindWord kind) number) (now (text .exit)) r (at + 24) ⌝ }
 {
-    if kind < 0 {
-        return put_line(text, at, b"high ", number);
+    match kind {
+        0 => put_line(text, at, b"setup ", number),
+        1 => put_line(text, at, b"hold ", number),
+        2 => put_line(text, at, b"low ", number),
+        _ => put_line(text, at, b"high ", number),
     }
-    if kind < 1 {
-        return put_line(text, at, b"setup ", number);
-    }
-    if kind < 2 {
-        return put_line(text, at, b"hold ", number);
-    }
-    if kind < 3 {
-        return put_line(text, at, b"low ", number);
-    }
-    put_line(text, at, b"high ", number)
 }
 
 fn put_latencies(text: &mut [u8], at: usize, answer: &[u8], n: usize) -> usize
-    requires { ⌜ (n ≤ 256) × (14 + 6 * n ≤ length (now answer)) × (at + 24 * n ≤ length (now text)) ⌝ }
-    ensures { λ r. ⌜ (Written (now (text .entry)) at (latencyLines (now (answer .entry)) n) (now (text .exit)) r) × (r ≤ at + 24 * n) ⌝ }
+    requires { ⌜ LatenciesRoom (now answer) (now text) at n ⌝ }
+    ensures { λ r. ⌜ Ended (now (text .entry)) at (latencyLines (now (answer .entry)) n) (now (text .exit)) r (at + 24 * n) ⌝ }
 {
     let mut next = at;
     let mut i = 0;
+    // `Lines`: the lines of the first i registers stand in the text, up to `next`.
     while i < n {
         let x = whole::number(answer, 14 + 6 * i + 2);
         next = put_latency(text, next, i, x);
@@ -97,14 +97,16 @@ fn put_latencies(text: &mut [u8], at: usize, answer: &[u8], n: usize) -> usize
 }
 
 fn put_entries(text: &mut [u8], at: usize, answer: &[u8], start: usize, k: usize) -> usize
-    requires { ⌜ (start + 10 * k ≤ length (now answer)) × (at + 24 * k ≤ length (now text)) ⌝ }
-    ensures { λ r. ⌜ (Written (now (text .entry)) at (entryLines (now (answer .entry)) start k) (now (text .exit)) r) × (r ≤ at + 24 * k) ⌝ }
+    requires { ⌜ EntriesRoom (now answer) start (now text) at k ⌝ }
+    ensures { λ r. ⌜ Ended (now (text .entry)) at (entryLines (now (answer .entry)) start k) (now (text .exit)) r (at + 24 * k) ⌝ }
 {
     let mut next = at;
     let mut j = 0;
+    // `Lines`: the lines of the first j entries stand in the text, up to `next`.
     while j < k {
-        let kind = whole::number(answer, start + 10 * j + 2);
-        let number = whole::number(answer, start + 10 * j + 6);
+        let place = start + 10 * j;
+        let kind = whole::number(answer, place + 2);
+        let number = whole::number(answer, place + 6);
         next = put_entry(text, next, kind, number);
         j += 1;
     }
@@ -112,8 +114,8 @@ fn put_entries(text: &mut [u8], at: usize, answer: &[u8], start: usize, k: usize
 }
 
 fn put_loop(text: &mut [u8], at: usize, period: i32, answer: &[u8], start: usize, k: usize) -> usize
-    requires { ⌜ (start + 10 * k ≤ length (now answer)) × (at + 24 + 24 * k ≤ length (now text)) ⌝ }
-    ensures { λ r. ⌜ (Written (now (text .entry)) at (loopLines period (now (answer .entry)) start k) (now (text .exit)) r) × (r ≤ at + 24 + 24 * k) ⌝ }
+    requires { ⌜ EntriesRoom (now answer) start (now text) (at + 24) k ⌝ }
+    ensures { λ r. ⌜ Ended (now (text .entry)) at (loopLines period (now (answer .entry)) start k) (now (text .exit)) r (at + 24 + 24 * k) ⌝ }
 {
     let next = put_line(text, at, b"loop ", period);
     put_entries(text, next, answer, start, k)
@@ -121,16 +123,15 @@ fn put_loop(text: &mut [u8], at: usize, period: i32, answer: &[u8], start: usize
 
 // A count in the answer's first record.
 fn count(answer: &[u8], at: usize) -> usize
-    requires { ⌜ (at + 4 ≤ length (now answer)) × (pos 0 ≤ℤ numberAt (now answer) at) ⌝ }
+    requires { ⌜ Countable (now answer) at ⌝ }
     ensures { λ r. ⌜ pos r ≡ numberAt (now (answer .entry)) at ⌝ }
 {
     whole::number(answer, at) as usize
 }
 
 fn answered(answer: &[u8], text: &mut [u8]) -> usize
-    requires { ⌜ FullAnswer (now answer) ⌝ }
-    requires { ⌜ 16384 ≤ length (now text) ⌝ }
-    ensures { λ r. ⌜ (Written (now (text .entry)) 0 (answeredText (now (answer .entry))) (now (text .exit)) r) × (r ≤ 16384) ⌝ }
+    requires { ⌜ InRoom (FullAnswer (now answer)) (now text) ⌝ }
+    ensures { λ r. ⌜ Ended (now (text .entry)) 0 (answeredText (now (answer .entry))) (now (text .exit)) r textRoom ⌝ }
 {
     let period = whole::number(answer, 2);
     let n = count(answer, 6);
@@ -144,37 +145,27 @@ fn answered(answer: &[u8], text: &mut [u8]) -> usize
 }
 
 // A refusal that shows a loop which contradicts itself at the ceiling.
-fn looped(file: &[u8], answer: &[u8], o: Outcome, text: &mut [u8]) -> usize
-    requires { ⌜ LoopAnswer (now file) (now answer) ⌝ }
-    requires { ⌜ 16384 ≤ length (now text) ⌝ }
-    ensures { λ r. ⌜ (Written (now (text .entry)) 0
-        (refused o ++ loopLines (ceiling (now (file .entry))) (now (answer .entry)) 14 (entries (now (answer .entry))))
-        (now (text .exit)) r) × (r ≤ 16384) ⌝ }
+fn looped(ceiling: i32, answer: &[u8], o: Outcome, text: &mut [u8]) -> usize
+    requires { ⌜ InRoom (LoopAnswer (now answer)) (now text) ⌝ }
+    ensures { λ r. ⌜ Ended (now (text .entry)) 0 (loopedText ceiling o (now (answer .entry))) (now (text .exit)) r textRoom ⌝ }
 {
     let k = count(answer, 10);
-    let at = whole::number(file, 14);
     let next = put_refusal(text, o);
-    put_loop(text, next, at, answer, 14, k)
+    put_loop(text, next, ceiling, answer, 14, k)
 }
 
-fn write(file: &[u8], answer: &[u8], o: Outcome, text: &mut [u8]) -> usize
-    requires { ⌜ Listable (now file) o (now answer) (now text) ⌝ }
-    ensures { λ r. ⌜ (Written (now (text .entry)) 0 (textOf (now (file .entry)) o (now (answer .entry))) (now (text .exit)) r) × (r ≤ 16384) ⌝ }
+// The listing stands at the front of the text, and what stood behind it stands there still; the result is the listing's length. The ceiling
+// is the network's: the text of 8 and 9 has it, and no other reads it.
+pub fn list(ceiling: i32, answer: &[u8], o: Outcome, text: &mut [u8]) -> usize
+    requires { ⌜ Listable o (now answer) (now text) ⌝ }
+    ensures { λ r. ⌜ (Front (textOf ceiling o (now (answer .entry))) (now (text .entry)) (now (text .exit)))
+        × (r ≡ length (textOf ceiling o (now (answer .entry)))) ⌝ }
 {
     match o {
         Outcome::Answered => answered(answer, text),
         Outcome::Refused(_) => put_refusal(text, o),
         Outcome::Room => put_refusal(text, o),
-        Outcome::NoPeriod => looped(file, answer, o, text),
-        Outcome::NoneToCeiling => looped(file, answer, o, text),
+        Outcome::NoPeriod => looped(ceiling, answer, o, text),
+        Outcome::NoneToCeiling => looped(ceiling, answer, o, text),
     }
-}
-
-// The listing stands at the front of the text, and what stood behind it stands there still; the result is the listing's length.
-pub fn list(file: &[u8], answer: &[u8], o: Outcome, text: &mut [u8]) -> usize
-    requires { ⌜ Listable (now file) o (now answer) (now text) ⌝ }
-    ensures { λ r. ⌜ (Front (textOf (now (file .entry)) o (now (answer .entry))) (now (text .entry)) (now (text .exit)))
-        × (r ≡ length (textOf (now (file .entry)) o (now (answer .entry)))) ⌝ }
-{
-    write(file, answer, o, text)
 }

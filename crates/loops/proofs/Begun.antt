@@ -12,7 +12,7 @@ use Rattle.whole.proofs.Lin.{lin, plus}
 use Rattle.loops.specs.Arrows.{Arrows, Sound, Schedule, tail, head, amount}
 use Rattle.loops.specs.Model.{at, pred, Turn, offered, step, pass, entered, round, allRooted, predsAfter}
 use Rattle.loops.specs.Forest.{Deep, Tight}
-use Rattle.loops.specs.Begun.{MetBelow, Begins}
+use Rattle.loops.specs.Begun.{MetBelow, Extends}
 use Rattle.loops.proofs.Round.{Stands}
 use Rattle.loops.proofs.Kept.{round-each}
 use Rattle.loops.proofs.Settle.{round-forest}
@@ -43,7 +43,7 @@ root-kept Γ a p s t r = go (round-each Γ a p s t 0 (s .some))
     go (inl k) = k .same
     go (inr l) = absurd (let n = l .noted in omega (arith, none))
 
-module _ (Γ Δ : Arrows) (b : Begins Γ Δ) where
+module _ (Γ Δ : Arrows) (b : Extends Γ Δ) where
   pub sound-begun : Sound Γ → Sound Δ
   sound-begun s =
       let n = b .registers in

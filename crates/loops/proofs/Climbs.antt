@@ -9,7 +9,7 @@ use Rattle.paper.specs.Chains.{All, Listed}
 use Rattle.loops.specs.Arrows.{Arrows, Least, Contradicts, tail, head}
 use Rattle.loops.specs.Webs.{Scheduled}
 use Rattle.loops.specs.Webs as webs
-use Rattle.loops.specs.Family.{Family, Lawful, Row, Lays, webAt, Refutes, Best, Shows}
+use Rattle.loops.specs.Family.{Family, Lawful, Enumerates, Lays, webAt, Refutes, Best, ShownFrom}
 use Rattle.loops.specs.Climbing.{Raises, Climbing}
 use Rattle.loops.proofs.Laid.{laid-least, laid-contradicts, laid-listed}
 use Rattle.loops.proofs.Families.{climb-ends, refutes-sooner, always, always-never}
@@ -22,7 +22,7 @@ module _ {E : Type 0} (F : Family E) (law : Lawful F) where
       (record { contradicts = record { loop = r .contradicts .loop; exist = r .contradicts .exist; above = up .over }; listed = r .listed })
 
   -- a loop has an arrow
-  shows-loop : (floor Q : ℕ) (l : List E) → floor < Q → Refutes F (Q - 1) l → Shows F floor Q l
+  shows-loop : (floor Q : ℕ) (l : List E) → floor < Q → Refutes F (Q - 1) l → ShownFrom F floor Q l
   shows-loop floor Q [] h r = absurd (r .contradicts .loop)
   shows-loop floor Q (e ∷ l) h r = (h, r)
 
@@ -36,20 +36,20 @@ module _ {E : Type 0} (F : Family E) (law : Lawful F) where
     climbing-at Q ring entries low to short exist r =
         record { from-floor = omega arith; to-ceiling = to; shown = shows-loop floor Q (map name (take entries ring)) low r; short = short; exist = exist }
 
-    module _ (P : ℕ) (Γ : Arrows) (whole : Γ .count ≡ count) (row : Row (F .graph) name count) (lays : Lays (F .graph) name (F .weigh P) Γ) where
-      rowed : Row (F .graph) name (Γ .count)
-      rowed = rw whole row
+    module _ (P : ℕ) (Γ : Arrows) (whole : Γ .count ≡ count) (names : Enumerates (F .graph) name count) (lays : Lays (F .graph) name (F .weigh P) Γ) where
+      placed : Enumerates (F .graph) name (Γ .count)
+      placed = rw whole names
 
       -- the row rests: it is the answer
       pub climbing-answers : (ring : List ℕ) (kept : ℕ) → Climbing F name count floor ceiling P ring kept → (x : ℕ → ℤ) → Least Γ x → Best F floor ceiling P x
       climbing-answers ring kept c x r =
-          climb-ends F law floor ceiling P x (map name (take kept ring)) (c .from-floor) (c .to-ceiling) (laid-least (F .graph) name (F .weigh P) Γ rowed lays x r) (c .shown)
+          climb-ends F law floor ceiling P x (map name (take kept ring)) (c .from-floor) (c .to-ceiling) (laid-least (F .graph) name (F .weigh P) Γ placed lays x r) (c .shown)
 
       -- a loop is found: it contradicts itself at P
       pub trial-refutes : (l : List ℕ) → Contradicts Γ l → Listed (tail Γ) (head Γ) l → Refutes F P (map name l)
       trial-refutes l c s = record {
-        contradicts = laid-contradicts (F .graph) name (F .weigh P) Γ rowed lays l c;
-        listed = laid-listed (F .graph) name (F .weigh P) Γ rowed lays l c s;
+        contradicts = laid-contradicts (F .graph) name (F .weigh P) Γ placed lays l c;
+        listed = laid-listed (F .graph) name (F .weigh P) Γ placed lays l c s;
       }
 
   -- Some period has a schedule, so a loop of fixed arrows cannot contradict itself: not all arrows of a loop that does are fixed.

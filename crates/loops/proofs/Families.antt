@@ -13,7 +13,7 @@ use Rattle.whole.proofs.Lin.{lin, negs}
 use Rattle.paper.specs.Chains.{All, Listed}
 use Rattle.paper.proofs.LoopLaws.{all-map}
 use Rattle.loops.specs.Webs.{Web, Schedule, Scheduled, Least, Contradicts, Within}
-use Rattle.loops.specs.Family.{Family, Lawful, Row, webOf, webAt, fixedGraph, Refutes, Never, NoneTo, Best, Shows, Always}
+use Rattle.loops.specs.Family.{Family, Lawful, Enumerates, webOf, webAt, fixedGraph, Refutes, Never, NoneTo, Best, ShownFrom, Always}
 use Rattle.loops.proofs.Below.{below-next}
 use Rattle.loops.proofs.Webs.{schedule-no-loop, within-schedule}
 
@@ -53,10 +53,10 @@ module _ {E : Type 0} (F : Family E) (law : Lawful F) where
   refutes-none-to ceiling l r P h = none-up-to P ceiling h l (r .contradicts)
 
   -- The end of the climb: the loop kept contradicts itself at P - 1, so no smaller period has a schedule.
-  pub climb-ends : (floor ceiling P : ℕ) (x : ℕ → ℤ) (l : List E) → floor ≤ P → P ≤ ceiling → Least (webAt F P) x → Shows F floor P l → Best F floor ceiling P x
+  pub climb-ends : (floor ceiling P : ℕ) (x : ℕ → ℤ) (l : List E) → floor ≤ P → P ≤ ceiling → Least (webAt F P) x → ShownFrom F floor P l → Best F floor ceiling P x
   climb-ends floor ceiling P x l a b s w = record { from-floor = a; to-ceiling = b; schedule = s .schedule; smallest = smallest l w; least = s .least }
     where
-      smallest : (l : List E) → Shows F floor P l → (Q : ℕ) → floor ≤ Q → Q < P → (y : ℕ → ℤ) → Schedule (webAt F Q) y → ⊥
+      smallest : (l : List E) → ShownFrom F floor P l → (Q : ℕ) → floor ≤ Q → Q < P → (y : ℕ → ℤ) → Schedule (webAt F Q) y → ⊥
       smallest [] w Q f h y t = omega arith
       smallest (e ∷ l) w Q f h y t = none-up-to Q (P - 1) (omega arith) (e ∷ l) (w .1 .contradicts) (y, t)
 
@@ -112,7 +112,7 @@ module _ {E : Type 0} (F : Family E) (law : Lawful F) where
         (P + Q, below-next (λ e. MeetsAt (P + Q) (name e)) k (λ e h. later-meets P (P + Q) (omega arith) (name e) (all e h)) (later-meets Q (P + Q) (omega arith) (name k) last))
 
     -- A schedule of the fixed arrows is one of all arrows at some period: there are only so many, and each is met from some period on.
-    pub fixed-scheduled : (name : ℕ → E) (count : ℕ) → Row (F .graph) name count → (P : ℕ) × Schedule (webAt F P) x
-    fixed-scheduled name count row =
-        let (P, all) = meets-below name count (row .named) in
-        (P, record { host = s .host; meets = λ r h. let (e, b, is) = row .found r h in subst (MeetsAt P) is (all e b) })
+    pub fixed-scheduled : (name : ℕ → E) (count : ℕ) → Enumerates (F .graph) name count → (P : ℕ) × Schedule (webAt F P) x
+    fixed-scheduled name count names =
+        let (P, all) = meets-below name count (names .here) in
+        (P, record { host = s .host; meets = λ r h. let (e, b, is) = names .found r h in subst (MeetsAt P) is (all e b) })

@@ -11,7 +11,7 @@ use Rattle.whole.proofs.Lin.{lin}
 use Rattle.paper.specs.Chains.{Listed}
 use Rattle.loops.specs.Arrows.{Arrows, web, tail, head, amount}
 use Rattle.loops.specs.Webs.{Schedule, Least, Contradicts, Within}
-use Rattle.loops.specs.Family.{Graph, Row, Lays, webOf}
+use Rattle.loops.specs.Family.{Graph, Enumerates, Lays, webOf}
 use Rattle.loops.specs.Model.{table}
 use Rattle.loops.proofs.Table.{table-at}
 use Rattle.loops.proofs.Webs.{within-schedule, within-contradicts, within-listed}
@@ -35,10 +35,10 @@ arrowsOf-lays G name count w = record {
   amounts = λ e h. table-at (λ e. w (name e)) count e (pos 0) h;
 }
 
-module _ {E : Type 0} (G : Graph E) (name : ℕ → E) (w : E → ℤ) (Γ : Arrows) (row : Row G name (Γ .count)) (y : Lays G name w Γ) where
+module _ {E : Type 0} (G : Graph E) (name : ℕ → E) (w : E → ℤ) (Γ : Arrows) (names : Enumerates G name (Γ .count)) (y : Lays G name w Γ) where
   pub laid-within : Within (web Γ) (webOf G w) name
   laid-within = record {
-    here = row .named;
+    here = names .here;
     tails = y .tails;
     heads = y .heads;
     asked = λ e h. let a = y .amounts e h in omega lin;
@@ -46,7 +46,7 @@ module _ {E : Type 0} (G : Graph E) (name : ℕ → E) (w : E → ℤ) (Γ : Arr
 
   -- every arrow of the graph stands somewhere, so what meets all places meets it
   pub laid-schedule : (x : ℕ → ℤ) → Schedule (web Γ) x ↔ Schedule (webOf G w) x
-  laid-schedule x = (λ s. record { host = s .host; meets = λ r h. meets s r h (row .found r h) }, within-schedule (web Γ) (webOf G w) name laid-within x)
+  laid-schedule x = (λ s. record { host = s .host; meets = λ r h. meets s r h (names .found r h) }, within-schedule (web Γ) (webOf G w) name laid-within x)
     where
       meets : Schedule (web Γ) x → (r : E) → G .Here r → (e : ℕ) × (e < Γ .count) × (name e ≡ r) → (x (G .leaves r) +ℤ w r) ≤ℤ x (G .reaches r)
       meets s r h (e, b, is) =

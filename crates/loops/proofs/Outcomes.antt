@@ -11,7 +11,7 @@ use Rattle.whole.proofs.Lin.{lin, negs, below}
 use Rattle.paper.specs.Chains.{Listed}
 use Rattle.loops.specs.Arrows.{Arrows, Sound, Lows, Highs, tail, head, amount}
 use Rattle.loops.specs.Webs.{Schedule, Scheduled, Least, Contradicts}
-use Rattle.loops.specs.Family.{Graph, Family, Lawful, Row, Framed, Lays, Layout, webOf, webAt, fixedGraph, Refutes, Always, Never, NoneTo, Best, Shows}
+use Rattle.loops.specs.Family.{Graph, Family, Lawful, Enumerates, Framed, Lays, LaidOut, webOf, webAt, fixedGraph, Refutes, Always, Never, NoneTo, Best, ShownFrom}
 use Rattle.loops.specs.Model.{at}
 use Rattle.loops.proofs.Greatest.{greatest, greatest-over}
 use Rattle.loops.proofs.Relax.{Either, schedule-or-loop}
@@ -21,12 +21,12 @@ use Rattle.loops.proofs.Families.{scheduled-later, none-up-to, refutes-
 
 -- ---- a framed graph in memory is what a relaxation asks for
 
-module _ {E : Type 0} (G : Graph E) (f : Framed G) (name : ℕ → E) (w : E → ℤ) (Γ : Arrows) (row : Row G name (Γ .count)) (y : Lays G name w Γ) where
+module _ {E : Type 0} (G : Graph E) (f : Framed G) (name : ℕ → E) (w : E → ℤ) (Γ : Arrows) (names : Enumerates G name (Γ .count)) (y : Lays G name w Γ) where
   pub framed-sound : Sound Γ
   framed-sound = record {
     some = rw (y .registers) (f .some);
-    leaves = λ e h. rw (y .registers, y .tails e h) (f .leaves-below (name e) (row .named e h));
-    reaches = λ e h. rw (y .registers, y .heads e h) (f .reaches-below (name e) (row .named e h));
+    leaves = λ e h. rw (y .registers, y .tails e h) (f .leaves-below (name e) (names .here e h));
+    reaches = λ e h. rw (y .registers, y .heads e h) (f .reaches-below (name e) (names .here e h));
   }
 
   -- the low arrow of v stands at any place that is named after it
@@ -35,21 +35,21 @@ module _ {E : Type 0} (G : Graph E) (f : Framed G) (name : ℕ → E) (w : E →
       let same = y .registers in
       record {
         exists = λ v z b. there v z (omega arith) .0;
-        leaves = λ v z b. let (h, is) = there v z (omega arith) in y .tails (low v) h ∙ ap (G .leaves) is ∙ f .low-leaves v;
-        reaches = λ v z b. let (h, is) = there v z (omega arith) in y .heads (low v) h ∙ ap (G .reaches) is ∙ f .low-reaches v;
+        leaves = λ v z b. let (h, is) = there v z (omega arith) in y .tails (low v) h ∙ ap (G .leaves) is ∙ f .low-leaves v z (omega arith);
+        reaches = λ v z b. let (h, is) = there v z (omega arith) in y .heads (low v) h ∙ ap (G .reaches) is ∙ f .low-reaches v z (omega arith);
       }
 
   pub framed-highs : (H : ℕ) → ((v : ℕ) → 0 < v → v < G .registers → below (w (f .high v)) ≤ H) → Highs Γ H
   framed-highs H most v z b =
       let same = y .registers in
-      let (e, h, is) = row .found (f .high v) (f .high-here v z (omega arith)) in
+      let (e, h, is) = names .found (f .high v) (f .high-here v z (omega arith)) in
       let m = most v z (omega arith) in
       let weighs = y .amounts e h ∙ ap w is in
       record {
         place = e;
         exists = h;
-        leaves = y .tails e h ∙ ap (G .leaves) is ∙ f .high-leaves v;
-        reaches = y .heads e h ∙ ap (G .reaches) is ∙ f .high-reaches v;
+        leaves = y .tails e h ∙ ap (G .leaves) is ∙ f .high-leaves v z (omega arith);
+        reaches = y .heads e h ∙ ap (G .reaches) is ∙ f .high-reaches v z (omega arith);
         most = omega (lin, negs (pos H));
       }
 
@@ -59,7 +59,7 @@ module _ {E : Type 0} (G : Graph E) (f : Framed G) (name : ℕ → E) (w : E →
 abbrev LeastOrLoop : {E : Type 0} → Graph E → (E → ℤ) → Type 0
 LeastOrLoop {E} G w = ((x : ℕ → ℤ) × Least (webOf G w) x) ⊎ ((l : List E) × Contradicts (webOf G w) l × Listed (G .leaves) (G .reaches) l)
 
-module _ {E : Type 0} (G : Graph E) (f : Framed G) (name : ℕ → E) (count : ℕ) (row : Row G name count) (w : E → ℤ) where
+module _ {E : Type 0} (G : Graph E) (f : Framed G) (name : ℕ → E) (count : ℕ) (names : Enumerates G name count) (w : E → ℤ) where
   abbrev Γ : Arrows
   Γ = arrowsOf G name count w
 
@@ -68,7 +68,7 @@ module _ {E : Type 0} (G : Graph E) (f : Framed G) (name : ℕ → E) (count : �
 
   -- a place of the low arrow of v, where v has one
   low-at : (v : ℕ) → Dec (0 < v) → Dec (v < G .registers) → ℕ
-  low-at v (yes z) (yes b) = row .found (f .low v) (f .low-here v z b) .0
+  low-at v (yes z) (yes b) = names .found (f .low v) (f .low-here v z b) .0
   low-at v (yes z) (no b) = 0
   low-at v (no z) b = 0
 
@@ -80,7 +80,7 @@ module _ {E : Type 0} (G : Graph E) (f : Framed G) (name : ℕ → E) (count : �
   low-there v z b = go (decLt 0 v) (decLt v (G .registers))
     where
       go : (p : Dec (0 < v)) (q : Dec (v < G .registers)) → (low-at v p q < count) × (name (low-at v p q) ≡ f .low v)
-      go (yes z′) (yes b′) = let r = row .found (f .low v) (f .low-here v z′ b′) in (r .1, r .2)
+      go (yes z′) (yes b′) = let r = names .found (f .low v) (f .low-here v z′ b′) in (r .1, r .2)
       go (yes z′) (no n) = absurd (n b)
       go (no n) q = absurd (n z)
 
@@ -93,18 +93,18 @@ module _ {E : Type 0} (G : Graph E) (f : Framed G) (name : ℕ → E) (count : �
   highest-over v z b = greatest-over (λ v. below (w (f .high v))) (G .registers) v b
 
   pub least-or-loop : LeastOrLoop G w
-  least-or-loop = go (schedule-or-loop Γ low highest (framed-sound G f name w Γ row y) (framed-lows G f name w Γ row y low low-there) (framed-highs G f name w Γ row y highest highest-over))
+  least-or-loop = go (schedule-or-loop Γ low highest (framed-sound G f name w Γ names y) (framed-lows G f name w Γ names y low low-there) (framed-highs G f name w Γ names y highest highest-over))
     where
       go : Either Γ → LeastOrLoop G w
-      go (inl r) = inl (at (r .0), laid-least G name w Γ row y (at (r .0)) (r .1))
-      go (inr c) = inr (map name (c .0), laid-contradicts G name w Γ row y (c .0) (c .1), laid-listed G name w Γ row y (c .0) (c .1) (c .2))
+      go (inl r) = inl (at (r .0), laid-least G name w Γ names y (at (r .0)) (r .1))
+      go (inr c) = inr (map name (c .0), laid-contradicts G name w Γ names y (c .0) (c .1), laid-listed G name w Γ names y (c .0) (c .1) (c .2))
 
 -- ---- a family that is laid out
 
-module _ {E : Type 0} (F : Family E) (law : Lawful F) (lay : Layout F) where
+module _ {E : Type 0} (F : Family E) (law : Lawful F) (lay : LaidOut F) where
   -- At a period there is a least schedule, or a loop that contradicts itself.
   pub least-or-refutes : (P : ℕ) → ((x : ℕ → ℤ) × Least (webAt F P) x) ⊎ ((l : List E) × Refutes F P l)
-  least-or-refutes P = go (least-or-loop (F .graph) (lay .framed) (lay .name) (lay .count) (lay .row) (F .weigh P))
+  least-or-refutes P = go (least-or-loop (F .graph) (lay .framed) (lay .name) (lay .count) (lay .enumerates) (F .weigh P))
     where
       go : LeastOrLoop (F .graph) (F .weigh P) → ((x : ℕ → ℤ) × Least (webAt F P) x) ⊎ ((l : List E) × Refutes F P l)
       go (inl r) = inl r
@@ -112,10 +112,10 @@ module _ {E : Type 0} (F : Family E) (law : Lawful F) (lay : Layout F) where
 
   -- Some period has a schedule, or a loop of fixed arrows contradicts itself: relax the fixed arrows alone.
   pub some-or-always : ((P : ℕ) × Scheduled (webAt F P)) ⊎ ((l : List E) × Always F l)
-  some-or-always = go (least-or-loop (fixedGraph F) (lay .fixed-framed) (lay .fixed-name) (lay .fixed-count) (lay .fixed-row) (F .weigh 0))
+  some-or-always = go (least-or-loop (fixedGraph F) (lay .fixed-framed) (lay .fixed-name) (lay .fixed-count) (lay .fixed-enumerates) (F .weigh 0))
     where
       go : LeastOrLoop (fixedGraph F) (F .weigh 0) → ((P : ℕ) × Scheduled (webAt F P)) ⊎ ((l : List E) × Always F l)
-      go (inl r) = let s = fixed-scheduled F law (r .0) (r .1 .schedule) (lay .name) (lay .count) (lay .row) in inl (s .0, (r .0, s .1))
+      go (inl r) = let s = fixed-scheduled F law (r .0) (r .1 .schedule) (lay .name) (lay .count) (lay .enumerates) in inl (s .0, (r .0, s .1))
       go (inr c) = inr (c .0, fixed-refutes F law (c .0) (c .1) (c .2))
 
   -- A schedule exists exactly when no loop contradicts itself.
@@ -139,15 +139,15 @@ module _ {E : Type 0} (F : Family E) (law : Lawful F) (lay : Layout F) where
   module _ (floor : ℕ) where
     -- a period with its least schedule, and why there is no smaller one
     abbrev Reached : Type 0
-    Reached = (P : ℕ) × (floor ≤ P) × ((x : ℕ → ℤ) × Least (webAt F P) x) × ((l : List E) × Shows F floor P l)
+    Reached = (P : ℕ) × (floor ≤ P) × ((x : ℕ → ℤ) × Least (webAt F P) x) × ((l : List E) × ShownFrom F floor P l)
 
     -- a loop has an arrow
-    loop-shows : (P : ℕ) (l : List E) → floor ≤ P → Refutes F P l → Shows F floor (suc P) l
+    loop-shows : (P : ℕ) (l : List E) → floor ≤ P → Refutes F P l → ShownFrom F floor (suc P) l
     loop-shows P [] a r = absurd (r .contradicts .loop)
     loop-shows P (e ∷ l) a r = let before : suc P - 1 ≡ P = omega arith in (omega arith, rw before r)
 
     -- A period without a schedule shows a loop, and then the next one is tried; at the latest, P + k has a schedule.
-    counted-up : (k P : ℕ) → floor ≤ P → (l : List E) → Shows F floor P l → Scheduled (webAt F (P + k)) → Reached
+    counted-up : (k P : ℕ) → floor ≤ P → (l : List E) → ShownFrom F floor P l → Scheduled (webAt F (P + k)) → Reached
     counted-up zero P a l w s = go (least-or-refutes P)
       where
         go : ((x : ℕ → ℤ) × Least (webAt F P) x) ⊎ ((m : List E) × Refutes F P m) → Reached
@@ -169,7 +169,7 @@ module _ {E : Type 0} (F : Family E) (law : Lawful F) (lay : Layout F) where
         → Never F ⊎ (((Q : ℕ) × Scheduled (webAt F Q)) × NoneTo F ceiling) ⊎ ((P : ℕ) × (x : ℕ → ℤ) × Best F floor ceiling P x)
     outcome ceiling from = go some-or-always
       where
-        above-ceiling : (P : ℕ) (l : List E) → ceiling < P → Shows F floor P l → NoneTo F ceiling
+        above-ceiling : (P : ℕ) (l : List E) → ceiling < P → ShownFrom F floor P l → NoneTo F ceiling
         above-ceiling P [] h w = absurd (omega arith)
         above-ceiling P (e ∷ l) h w = λ Q b. refutes-none-to F law (P - 1) (e ∷ l) (w .1) Q (omega arith)
 

@@ -8,7 +8,7 @@ use borrow.Author.Tests.{lt-ltb, le-ltb}
 use Rattle.paper.specs.Network.{Network}
 use Rattle.paper.specs.Rules.{Rule, Setup, Hold, Low, High, Exists, tail, head}
 use Rattle.paper.proofs.Legal.{Legal}
-use Rattle.loops.specs.Family.{Row, Framed, Layout, fixedGraph}
+use Rattle.loops.specs.Family.{Enumerates, Framed, LaidOut, fixedGraph}
 use Rattle.loops.specs.RuleFamily.{IsFixed, graphOf, rules}
 use Rattle.loops.specs.Layout.{windows, fixedCount, ruleCount, ruleAt, placeOf, Joined}
 
@@ -78,12 +78,12 @@ module _ (N : Network) where
 
   -- ---- so each place has its rule, and each rule its place
 
-  pub rules-row : Row (graphOf N) (ruleAt N) (ruleCount N)
-  rules-row = record { named = rule-exists; found = λ r h. (placeOf N r, place-below r h, place-rule r h) }
+  pub rules-enumerate : Enumerates (graphOf N) (ruleAt N) (ruleCount N)
+  rules-enumerate = record { here = rule-exists; found = λ r h. (placeOf N r, place-below r h, place-rule r h) }
 
-  pub fixed-row : Row (fixedGraph (rules N)) (ruleAt N) (fixedCount N)
-  fixed-row = record {
-    named = λ e h. (rule-exists e (omega arith), rule-fixed e h);
+  pub fixed-enumerates : Enumerates (fixedGraph (rules N)) (ruleAt N) (fixedCount N)
+  fixed-enumerates = record {
+    here = λ e h. (rule-exists e (omega arith), rule-fixed e h);
     found = λ r h. (placeOf N r, place-fixed r (h .0) (h .1), place-rule r (h .0));
   }
 
@@ -109,12 +109,12 @@ module _ (N : Network) where
     reaches-below = head-below j;
     low = Low;
     low-here = λ v z b. (z, b);
-    low-leaves = λ v. refl;
-    low-reaches = λ v. refl;
+    low-leaves = λ v z b. refl;
+    low-reaches = λ v z b. refl;
     high = High;
     high-here = λ v z b. (z, b);
-    high-leaves = λ v. refl;
-    high-reaches = λ v. refl;
+    high-leaves = λ v z b. refl;
+    high-reaches = λ v z b. refl;
   }
 
   abbrev pub fixed-framed : Joined N → Framed (fixedGraph (rules N))
@@ -124,24 +124,24 @@ module _ (N : Network) where
     reaches-below = λ r h. head-below j r (h .0);
     low = Low;
     low-here = λ v z b. ((z, b), tt);
-    low-leaves = λ v. refl;
-    low-reaches = λ v. refl;
+    low-leaves = λ v z b. refl;
+    low-reaches = λ v z b. refl;
     high = High;
     high-here = λ v z b. ((z, b), tt);
-    high-leaves = λ v. refl;
-    high-reaches = λ v. refl;
+    high-leaves = λ v z b. refl;
+    high-reaches = λ v z b. refl;
   }
 
-  pub rules-layout : Joined N → Layout (rules N)
+  pub rules-layout : Joined N → LaidOut (rules N)
   rules-layout j = record {
     framed = rules-framed j;
     fixed-framed = fixed-framed j;
     name = ruleAt N;
     count = ruleCount N;
-    row = rules-row;
+    enumerates = rules-enumerate;
     fixed-name = ruleAt N;
     fixed-count = fixedCount N;
-    fixed-row = fixed-row;
+    fixed-enumerates = fixed-enumerates;
   }
 
 -- an accepted network has a host, and its paths join registers

@@ -15,7 +15,7 @@ use Rattle.paper.specs.Schedule.{Schedule, IsLoop, Contradicts, Refutes, Answer
 use Rattle.paper.specs.Refusals.{Scheduled, NoPeriod, NoneToCeiling}
 use Rattle.paper.proofs.RuleLaws.{arrow-is-rule, amount-falls}
 use Rattle.loops.specs.Webs as webs
-use Rattle.loops.specs.Family.{Lawful, webAt, Never, NoneTo, Best, Shows, Always}
+use Rattle.loops.specs.Family.{Lawful, webAt, Never, NoneTo, Best, ShownFrom, Always}
 use Rattle.loops.specs.Family as family
 use Rattle.loops.specs.RuleFamily.{IsFixed, rules}
 use Rattle.loops.specs.Layout.{Joined}
@@ -93,7 +93,7 @@ module _ (N : Network) where
     λ r. record { contradicts = contradicts-rules P l .1 (r .is-loop, r .contradicts); listed = r .listed },
   )
 
-  pub shown-rules : (P : ℕ) (l : List Rule) → Shows (rules N) (N .floor) P l → Shown N P l
+  pub shown-rules : (P : ℕ) (l : List Rule) → ShownFrom (rules N) (N .floor) P l → Shown N P l
   shown-rules P [] w = w
   shown-rules P (r ∷ l) w = (w .0, refutes-rules _ (r ∷ l) .0 (w .1))
 

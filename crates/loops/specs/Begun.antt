@@ -10,7 +10,7 @@ abbrev pub MetBelow : Arrows → (ℕ → ℤ) → ℕ → Type 0
 MetBelow Γ x from = (e : ℕ) → e < from → (x (tail Γ e) +ℤ amount Γ e) ≤ℤ x (head Γ e)
 
 -- the first arrows of Γ are those of Δ, between the same registers
-pub record Begins (Γ Δ : Arrows) : Type 0 where
+pub record Extends (Γ Δ : Arrows) : Type 0 where
   pub registers : Γ .registers ≡ Δ .registers
   pub fewer : Δ .count ≤ Γ .count
   pub tails : (e : ℕ) → e < Δ .count → tail Γ e ≡ tail Δ e

@@ -1,6 +1,5 @@
 -- The climb to the smallest period, over any family whose arrows stand in memory by their names. What is asked of the next period is only
 -- that the loop found contradicts itself just below it.
-use mathlib.Core.Path.{_≡_}
 use mathlib.Core.List.{List, map}
 use Prim.Native.Nat.{ℕ, _-_, _≤_, _<_}
 use lib.IntN.{pos}
@@ -8,7 +7,7 @@ use lib.ListN.{take}
 use lib.Signed.{_<ℤ_}
 use Rattle.whole.specs.Sums.{total}
 use Rattle.paper.specs.Chains.{All}
-use Rattle.loops.specs.Family.{Family, Shows}
+use Rattle.loops.specs.Family.{Family, ShownFrom}
 
 module _ {E : Type 0} (F : Family E) where
   -- from P on to Q: the loop's amounts still add up to more than 0 at the period before Q
@@ -21,6 +20,6 @@ module _ {E : Type 0} (F : Family E) where
   pub record Climbing (name : ℕ → E) (count floor ceiling P : ℕ) (ring : List ℕ) (kept : ℕ) : Type 0 where
     pub from-floor : floor ≤ P
     pub to-ceiling : P ≤ ceiling
-    pub shown : Shows F floor P (map name (take kept ring))
+    pub shown : ShownFrom F floor P (map name (take kept ring))
     pub short : kept ≤ F .graph .registers
     pub exist : All (λ e. e < count) (take kept ring)

@@ -23,6 +23,7 @@ pub record Family (E : Type 0) : Type 1 where
   pub graph : Graph E
   -- the arrows that do not know the period
   pub Fixed : E → Type 0
+  -- what an arrow asks at a period
   pub weigh : ℕ → E → ℤ
 
 -- all that is asked of a family's amounts
@@ -34,10 +35,11 @@ pub record Lawful {E : Type 0} (F : Family E) : Type 0 where
   -- that of any other falls below every bound
   pub sinks : (e : E) → F .graph .Here e → F .Fixed e ⊎ ((b : ℤ) → (P : ℕ) × (F .weigh P e ≤ℤ b))
 
--- ---- a graph in memory: at the places below `count` stand its arrows, each by its name
+-- ---- a graph in memory
 
-pub record Row {E : Type 0} (G : Graph E) (name : ℕ → E) (count : ℕ) : Type 0 where
-  pub named : (e : ℕ) → e < count → G .Here (name e)
+-- at the places below `count` stand arrows of the graph, each by its name, and every arrow of the graph stands at one of them
+pub record Enumerates {E : Type 0} (G : Graph E) (name : ℕ → E) (count : ℕ) : Type 0 where
+  pub here : (e : ℕ) → e < count → G .Here (name e)
   pub found : (r : E) → G .Here r → (e : ℕ) × (e < count) × (name e ≡ r)
 
 -- the arrows in memory have the ends of the arrows that they are named after, and the amounts that w gives those
@@ -54,12 +56,12 @@ pub record Framed {E : Type 0} (G : Graph E) : Type 0 where
   pub reaches-below : (e : E) → G .Here e → G .reaches e < G .registers
   pub low : ℕ → E
   pub low-here : (v : ℕ) → 0 < v → v < G .registers → G .Here (low v)
-  pub low-leaves : (v : ℕ) → G .leaves (low v) ≡ 0
-  pub low-reaches : (v : ℕ) → G .reaches (low v) ≡ v
+  pub low-leaves : (v : ℕ) → 0 < v → v < G .registers → G .leaves (low v) ≡ 0
+  pub low-reaches : (v : ℕ) → 0 < v → v < G .registers → G .reaches (low v) ≡ v
   pub high : ℕ → E
   pub high-here : (v : ℕ) → 0 < v → v < G .registers → G .Here (high v)
-  pub high-leaves : (v : ℕ) → G .leaves (high v) ≡ v
-  pub high-reaches : (v : ℕ) → G .reaches (high v) ≡ 0
+  pub high-leaves : (v : ℕ) → 0 < v → v < G .registers → G .leaves (high v) ≡ v
+  pub high-reaches : (v : ℕ) → 0 < v → v < G .registers → G .reaches (high v) ≡ 0
 
 module _ {E : Type 0} (F : Family E) where
   -- the arrows at a period
@@ -76,15 +78,15 @@ module _ {E : Type 0} (F : Family E) where
   }
 
   -- all arrows and the fixed ones alone are framed and have places; the two layouts need not know each other
-  pub record Layout : Type 0 where
+  pub record LaidOut : Type 0 where
     pub framed : Framed (F .graph)
     pub fixed-framed : Framed fixedGraph
     pub name : ℕ → E
     pub count : ℕ
-    pub row : Row (F .graph) name count
+    pub enumerates : Enumerates (F .graph) name count
     pub fixed-name : ℕ → E
     pub fixed-count : ℕ
-    pub fixed-row : Row fixedGraph fixed-name fixed-count
+    pub fixed-enumerates : Enumerates fixedGraph fixed-name fixed-count
 
   -- ---- what a search for the smallest period may come to
 
@@ -115,6 +117,6 @@ module _ {E : Type 0} (F : Family E) where
     pub least : (y : ℕ → ℤ) → Schedule (webAt P) y → (v : ℕ) → v < F .graph .registers → x v ≤ℤ y v
 
   -- why no smaller period from the floor on has a schedule: there is none smaller, or a loop contradicts itself at the period before
-  abbrev pub Shows : ℕ → ℕ → List E → Type 0
-  Shows floor P [] = P ≡ floor
-  Shows floor P (e ∷ l) = (floor < P) × Refutes (P - 1) (e ∷ l)
+  abbrev pub ShownFrom : ℕ → ℕ → List E → Type 0
+  ShownFrom floor P [] = P ≡ floor
+  ShownFrom floor P (e ∷ l) = (floor < P) × Refutes (P - 1) (e ∷ l)

@@ -5,7 +5,7 @@ use mathlib.Core.List.{List}
 use Prim.Native.Nat.{ℕ, zero, suc, _+_, _≤_, _<_}
 use lib.ListN.{length}
 use lib.IntN.{ℤ, pos, _+ℤ_, _-ℤ_}
-use Rattle.whole.proofs.Lin.{above}
+use Rattle.whole.specs.Parts.{above}
 use Rattle.loops.specs.Arrows.{Arrows, tail, head, amount}
 use Rattle.loops.specs.Model.{at, pred, back}
 

@@ -6,7 +6,7 @@ use lib.Dec.{eqb}
 use lib.ListN.{getD}
 use Rattle.paper.specs.Rules.{Rule, Setup, Hold, Low, High}
 
--- the rule that a kind and a number name: 0 setup, 1 hold, 2 low, 3 high
+-- the rule that a kind and a number name: 0 setup, 1 hold, 2 low, 3 high; any other kind, which never occurs, is taken for 3
 unfoldable pub ruleOf : ℕ → ℕ → Rule
 ruleOf kind number =
     cond (eqb kind 0) (Setup number)

@@ -1,9 +1,9 @@
 -- The paper's rules as a family of arrows: each rule's arrow with its amount at P. Only a setup rule's amount knows P.
-use Prim.Native.Nat.{ℕ}
 use Rattle.paper.specs.Network.{Network}
 use Rattle.paper.specs.Rules.{Rule, Setup, Hold, Low, High, Exists, tail, head, amount}
 use Rattle.loops.specs.Family.{Graph, Family}
 
+-- every rule but a setup rule
 abbrev pub IsFixed : Rule → Type 0
 IsFixed (Setup p) = ⊥
 IsFixed (Hold p) = Unit {0}

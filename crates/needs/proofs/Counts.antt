@@ -1,5 +1,6 @@
--- Counting the setup rules among the rules at listed places, place by place: a place of kind 0 is one more, and any other is none.
-use mathlib.Core.Path.{_≡_, refl, _∙_}
+-- Counting the setup rules among the rules at listed places, place by place: a place of kind 0 is one more, and any other is none. Rests on
+-- `map-more` of `loops`.
+use mathlib.Core.Path.{_≡_, refl}
 use mathlib.Core.Logic.{_≢_}
 use mathlib.Core.Bool.{Bool, true, false, cond}
 use mathlib.Core.List.{List, [], _∷_, _++_, map}
@@ -45,6 +46,7 @@ pub record Counted (kinds ring : List ℕ) (entries j count : ℕ) : Type 0 wher
   pub is : (numbers : List ℕ) → count ≡ setupsAt kinds numbers (take j ring)
 
 module _ (kinds ring : List ℕ) (entries : ℕ) where
+  -- before the first turn, of no entry
   pub counted-none : Counted kinds ring entries 0 0
   counted-none = record { so-far = omega arith; most = omega arith; is = λ numbers. refl }
 
@@ -54,6 +56,7 @@ module _ (kinds ring : List ℕ) (entries : ℕ) where
         rw (map-more (named kinds numbers) ring j (omega arith))
         (omega (arith, setups-append (map (named kinds numbers) (take j ring)) (named kinds numbers (getD ring j 0) ∷ []), s .is numbers))
 
+    -- a place of kind 0 is one more
     pub counted-setup : getD kinds (getD ring j 0) 0 ≡ 0 → Counted kinds ring entries (j + 1) (count + 1)
     counted-setup k =
         let most = s .most in
@@ -63,6 +66,7 @@ module _ (kinds ring : List ℕ) (entries : ℕ) where
           is = λ numbers. omega (arith, more numbers, kind-setup (getD kinds (getD ring j 0) 0) (getD numbers (getD ring j 0) 0) k);
         }
 
+    -- any other is none
     pub counted-other : getD kinds (getD ring j 0) 0 ≢ 0 → Counted kinds ring entries (j + 1) count
     counted-other k =
         let most = s .most in

@@ -1,4 +1,4 @@
--- The sum of the amounts at the places of a list: entry by entry, within 64 bits, and its bound.
+-- The sum of the amounts at the places of a list: entry by entry, within 64 bits, and its bound. Rests on `Sums` of `whole`.
 use mathlib.Core.Path.{_≡_, refl}
 use mathlib.Core.List.{List, [], _∷_}
 use Prim.Native.Nat.{ℕ, _+_, _*_, _≤_, _<_}
@@ -24,10 +24,12 @@ pub record Summed (amounts : List ℤ) (ring : List ℕ) (entries j : ℕ) (sum 
   pub to : sum ≤ℤ pos (j * 2147483648)
 
 module _ (amounts : List ℤ) (ring : List ℕ) (entries : ℕ) where
+  -- before the first turn, of no entry
   pub summed-none : Summed amounts ring entries 0 (pos 0)
   summed-none = record { so-far = omega arith; is = refl; from = omega lin; to = omega lin }
 
   module _ (j : ℕ) (sum w : ℤ) (is : getD amounts (getD ring j 0) (pos 0) ≡ w) (fits : SFits w32 w) (s : Summed amounts ring entries j sum) where
+    -- the amount at the next place is added
     pub summed-more : j < entries → entries ≤ length ring → Summed amounts ring entries (j + 1) (sum +ℤ w)
     summed-more h long =
         let b = fits-between w32 w fits in

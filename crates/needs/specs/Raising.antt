@@ -12,11 +12,12 @@ use Rattle.paper.specs.Chains.{All}
 use Rattle.paper.specs.Schedule.{setups}
 use Rattle.loops.specs.Shape.{Modest}
 use Rattle.loops.specs.Names.{named}
+use Rattle.paper.specs.Limits.{mostRegisters, Period}
 
 -- the first entries of the list, at most 256, are places below `count`
 pub record Places (count : ℕ) (ring : List ℕ) (entries : ℕ) : Type 0 where
   pub enough : entries ≤ length ring
-  pub few : entries ≤ 256
+  pub few : entries ≤ mostRegisters
   pub within : All (λ e. e < count) (take entries ring)
 
 -- what the amounts at the places add up to
@@ -28,18 +29,17 @@ abbrev pub setupsAt : List ℕ → List ℕ → List ℕ → ℕ
 setupsAt kinds numbers l = setups (map (named kinds numbers) l)
 
 -- a kind and a modest amount stand at place e
-pub record Stands (amounts : List ℤ) (kinds : List ℕ) (e : ℕ) : Type 0 where
+pub record Summable (amounts : List ℤ) (kinds : List ℕ) (e : ℕ) : Type 0 where
   pub has-amount : e < length amounts
   pub has-kind : e < length kinds
   pub modest : Modest (getD amounts e (pos 0))
 
--- a period up to the greatest ceiling, and a loop with a setup rule that contradicts itself, short enough that its sum stays small
+-- a period up to the greatest ceiling, and at most 256 places whose amounts add up to more than 0, one of them a setup rule's at least
 pub record Raisable (amounts : List ℤ) (kinds : List ℕ) (period : ℤ) (ring : List ℕ) (entries : ℕ) : Type 0 where
-  pub from : pos 1 ≤ℤ period
-  pub to : period ≤ℤ pos 10000000
+  pub allowed : Period period
   pub enough : entries ≤ length ring
-  pub few : entries ≤ 256
-  pub places : All (Stands amounts kinds) (take entries ring)
+  pub few : entries ≤ mostRegisters
+  pub places : All (Summable amounts kinds) (take entries ring)
   pub over : pos 0 <ℤ sumAt amounts (take entries ring)
   -- by whichever numbers
   pub numbers : List ℕ

@@ -11,6 +11,7 @@ pub fn total_of(amount: &[i32], ring: &[u16], entries: usize) -> i64
     requires { ⌜ Places (length (now amount)) (now ring) entries ⌝ }
     ensures { λ r. ⌜ r ≡ sumAt (now (amount .entry)) (take entries (now (ring .entry))) ⌝ }
 {
+    // `sum` is the sum of the first j entries' amounts.
     let mut sum: i64 = 0;
     let mut j = 0;
     while j < entries {
@@ -26,6 +27,7 @@ pub fn setups_of(kind: &[u8], ring: &[u16], entries: usize) -> usize
     requires { ⌜ Places (length (now kind)) (now ring) entries ⌝ }
     ensures { λ r. ⌜ ((numbers : List ℕ) → r ≡ setupsAt (now (kind .entry)) numbers (take entries (now (ring .entry)))) ⌝ }
 {
+    // `count` of the first j entries are those of setup rules.
     let mut count = 0;
     let mut j = 0;
     while j < entries {

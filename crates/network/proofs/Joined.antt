@@ -1,4 +1,5 @@
--- The tests of the header and of a record, joined from the tests of their fields, as the code joins them.
+-- The tests of the header and of a record, joined from the tests of their fields, as the code joins them. Rests on the definitions of
+-- `File.antt` of `paper`.
 use mathlib.Core.Path.{_≡_, ap, _∙_}
 use mathlib.Core.List.{List}
 use mathlib.Core.Bool.{Bool, _&&_}
@@ -12,6 +13,7 @@ use Rattle.paper.specs.File.{marked, within, windowed, counted, sized, ranged, 
 use Rattle.records.specs.declared.Record.{Record}
 use Rattle.records.specs.Records.{IsRecord}
 
+-- the tests of numbers 2, 3 and 4, from those of the header's fields
 pub counted-joined : (f : List ℕ) {n m r : Bool}
     → n ≡ within (pos 1) (pos 256) (numberAt f 2)
     → m ≡ within (pos 0) (pos 2048) (numberAt f 6)
@@ -37,9 +39,11 @@ ranged-joined f floor ceiling u r = rw (floor, ceiling, u) at r
 pub record-there : (f : List ℕ) {at place : ℕ} (r : Record) → at ≡ place → IsRecord f at r → IsRecord f place r
 record-there f r e s = rw e at s
 
+-- a record read at path p's place, by the count that the caller has
 pub path-there : (f : List ℕ) (n p : ℕ) {at : ℕ} (r : Record) → n ≡ registers f → at ≡ 22 + 18 * (n + p) → IsRecord f at r → IsRecord f (pathPlace f p) r
 path-there f n p r k e s = record-there f r (e ∙ ap (λ x. 22 + 18 * (x + p)) k) s
 
+-- the test of number 5, from those of one record's fields; number 6 alike
 pub register-joined : (f : List ℕ) (i : ℕ) (r : Record) {mark setup hold window three ok : Bool}
     → IsRecord f (registerPlace f i) r
     → mark ≡ eqb (r .initial) 82 && eqb (r .last) 71

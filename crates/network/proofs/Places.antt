@@ -1,4 +1,4 @@
--- Where an accepted file has its records, and that its header's floor and ceiling are the network's.
+-- Where an accepted file has its records, and that its header's floor and ceiling are the network's. Rests on `Legal` of `paper`.
 use mathlib.Core.Path.{_≡_, sym}
 use mathlib.Core.List.{List}
 use Prim.Native.Nat.{ℕ, _+_, _*_, _≤_, _<_}
@@ -12,6 +12,7 @@ use Rattle.paper.specs.Refusals.{Accepted}
 use Rattle.paper.proofs.Legal.{passes, accepted-length, ranges-passed, natural-is}
 
 module _ (f : List ℕ) (a : Accepted f) where
+  -- the header, and each record, lies within the file
   pub header-inside : 22 ≤ length f
   header-inside = let l = accepted-length f a in omega arith
 
@@ -24,6 +25,7 @@ module _ (f : List ℕ) (a : Accepted f) where
   unfolding networkOf
   path-inside n p e h = let l = accepted-length f a in omega arith
 
+  -- floor and ceiling stand in the header
   pub floor-is : numberAt f 10 ≡ pos (networkOf f .floor)
   unfolding networkOf
   floor-is =

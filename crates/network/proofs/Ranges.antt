@@ -1,4 +1,5 @@
--- What is read from an accepted file lies in its ranges. All of them fit a machine number by far, which a caller's sums rest on.
+-- What is read from an accepted file lies in its ranges. All of them fit a machine number by far, which a caller's sums rest on. Rests on
+-- `Legal` of `paper`.
 use mathlib.Core.Path.{_≡_}
 use mathlib.Core.List.{List}
 use Prim.Native.Nat.{ℕ, _<_}
@@ -50,6 +51,7 @@ module _ {N : Network} (legal : Legal N) where
 
 -- ---- of an accepted file
 
+-- a register that was read lies in its ranges, and so does a path
 pub register-ranges : (f : List ℕ) (i : ℕ) (r : Register) → Accepted f → i < networkOf f .registers → IsRegister (networkOf f) i r → RegisterRanges r
 register-ranges f i r a l e = legal-register (accepted-legal f a) i r l e
 

@@ -1,8 +1,11 @@
 -- The records that are read from a file, with every field that of the network that the file means.
 use mathlib.Core.Path.{_≡_}
-use Prim.Native.Nat.{ℕ}
+use mathlib.Core.List.{List}
+use Prim.Native.Nat.{ℕ, _<_}
 use lib.IntN.{pos}
 use Rattle.paper.specs.Network.{Network}
+use Rattle.paper.specs.File.{networkOf}
+use Rattle.paper.specs.Refusals.{Accepted}
 use Rattle.network.specs.declared.Header.{Header}
 use Rattle.network.specs.declared.Register.{Register}
 use Rattle.network.specs.declared.Path.{Path}
@@ -25,3 +28,9 @@ pub record IsPath (N : Network) (p : ℕ) (r : Path) : Type 0 where
   pub dmin : r .dmin .0 ≡ N .dmin p
   pub dmax : r .dmax .0 ≡ N .dmax p
   pub uncertainty : r .uncertainty .0 ≡ N .uncertainty p
+
+-- path p of an accepted file with n registers may be read
+pub record PathThere (f : List ℕ) (n p : ℕ) : Type 0 where
+  pub accepted : Accepted f
+  pub registers : n ≡ networkOf f .registers
+  pub exists : p < networkOf f .paths

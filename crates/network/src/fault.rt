@@ -7,9 +7,19 @@ ghost use Prim.Native.Nat.{ℕ, _+_, _*_, _≤_, _<_};
 ghost use lib.ListN.{length};
 ghost use Rattle.paper.specs.File.{headed, counted, sized, ranged, registers, registerPlace, pathPlace, registerOk, pathOk};
 ghost use Rattle.records.specs.Records.{IsRecord};
-ghost use Rattle.network.specs.Search.{Sought};
+ghost use Rattle.network.specs.Search.{Sought, PathsThere};
+ghost use Rattle.paper.specs.Limits.{mostRegisters};
 use crate::field;
+use paper::limits;
 use records::Record;
+use whole::all3;
+use whole::both;
+use whole::within;
+
+// The header keeps them as numbers of four bytes.
+const MOST_REGISTERS: i32 = limits::MOST_REGISTERS as i32;
+
+const MOST_PATHS: i32 = limits::MOST_PATHS as i32;
 
 // What a search for a faulty record finds.
 pub enum Found {
@@ -33,9 +43,9 @@ pub fn counted(file: &[u8]) -> bool
     requires { ⌜ 22 ≤ length (now file) ⌝ }
     ensures { λ r. ⌜ r ≡ counted (now (file .entry)) ⌝ }
 {
-    field::both(
-        field::within_at(file, 2, 1, 256),
-        field::within_at(file, 6, 0, 2048),
+    both(
+        field::within_at(file, 2, 1, MOST_REGISTERS),
+        field::within_at(file, 6, 0, MOST_PATHS),
     )
 }
 
@@ -54,10 +64,10 @@ pub fn ranged(file: &[u8]) -> bool
     requires { ⌜ 22 ≤ length (now file) ⌝ }
     ensures { λ r. ⌜ r ≡ ranged (now (file .entry)) ⌝ }
 {
-    field::all3(
-        field::within_at(file, 10, 1, 10_000_000),
-        field::rising(file, 10, 14, 10_000_000),
-        field::within_at(file, 18, 0, 10_000),
+    all3(
+        field::within_at(file, 10, 1, limits::MOST_PERIOD),
+        field::rising(file, 10, 14, limits::MOST_PERIOD),
+        field::within_at(file, 18, 0, limits::MOST_UNCERTAINTY),
     )
 }
 
@@ -65,27 +75,28 @@ pub fn ranged(file: &[u8]) -> bool
 pub fn register_ok(i: usize, r: Record) -> bool
     ensures { λ ok. ⌜ ((f : List ℕ) → IsRecord f (registerPlace f i) r → ok ≡ registerOk f i) ⌝ }
 {
-    let mark = field::both(r.initial == b'R', r.last == b'G');
-    let setup = field::within(-100_000, 100_000, r.first);
-    let hold = field::within(-100_000, 100_000, r.second);
+    let mark = both(r.initial == b'R', r.last == b'G');
+    let setup = within(limits::LEAST_SETUP, limits::MOST_SETUP, r.first);
+    let hold = within(limits::LEAST_SETUP, limits::MOST_SETUP, r.second);
     let window = field::windowed(i, r.third, r.fourth);
-    field::both(field::all3(mark, setup, hold), window)
+    both(all3(mark, setup, hold), window)
 }
 
 // Number 6, of one path, by its record: its mark, its ends among n registers, its delays.
 pub fn path_ok(n: usize, r: Record) -> bool
-    requires { ⌜ n ≤ 256 ⌝ }
+    requires { ⌜ n ≤ mostRegisters ⌝ }
     ensures { λ ok. ⌜ ((f : List ℕ) (p : ℕ) → n ≡ registers f → IsRecord f (pathPlace f p) r → ok ≡ pathOk f p) ⌝ }
 {
-    let mark = field::both(r.initial == b'P', r.last == b'T');
+    let mark = both(r.initial == b'P', r.last == b'T');
     let from = field::named(r.first, n);
     let to = field::named(r.second, n);
     let dmin = field::from_zero(r.third);
-    let dmax = field::within(r.third, 1_000_000, r.fourth);
-    field::all3(field::all3(mark, from, to), dmin, dmax)
+    let dmax = within(r.third, limits::MOST_DELAY, r.fourth);
+    all3(all3(mark, from, to), dmin, dmax)
 }
 
 // The lowest of n registers that is faulty. The records are read one after another, each where the last one says that the next begins.
+// Before each turn the next record is register i's, and every register below i is sound.
 pub fn lowest_register(file: &[u8], n: usize) -> Found
     requires { ⌜ 22 + 18 * n ≤ length (now file) ⌝ }
     ensures { λ r. ⌜ Sought (registerOk (now (file .entry))) n r ⌝ }
@@ -103,9 +114,9 @@ pub fn lowest_register(file: &[u8], n: usize) -> Found
     Found::Nothing
 }
 
-// The lowest of m paths that is faulty, among n registers.
+// The lowest of m paths that is faulty, among n registers. Before each turn the next record is path p's, and every path below p is sound.
 pub fn lowest_path(file: &[u8], n: usize, m: usize) -> Found
-    requires { ⌜ (n ≡ registers (now file)) × (n ≤ 256) × (22 + 18 * (n + m) ≤ length (now file)) ⌝ }
+    requires { ⌜ PathsThere (now file) n m ⌝ }
     ensures { λ r. ⌜ Sought (pathOk (now (file .entry))) m r ⌝ }
 {
     let mut p = 0;

@@ -8,6 +8,10 @@ ghost use lib.ListN.{length};
 ghost use lib.Signed.{leZ};
 ghost use Rattle.whole.specs.Four.{numberAt};
 ghost use Rattle.paper.specs.File.{natural, marked, within, windowed};
+ghost use Rattle.paper.specs.Limits.{mostRegisters};
+use paper::limits;
+use whole::both;
+use whole::within;
 
 // The letters a and b at a place.
 pub fn marked(file: &[u8], at: usize, a: u8, b: u8) -> bool
@@ -15,26 +19,6 @@ pub fn marked(file: &[u8], at: usize, a: u8, b: u8) -> bool
     ensures { λ r. ⌜ r ≡ marked (now (file .entry)) at a b ⌝ }
 {
     file[at] == a && file[at + 1] == b
-}
-
-// From low to high.
-pub fn within(low: i32, high: i32, z: i32) -> bool
-    ensures { λ r. ⌜ r ≡ within low high z ⌝ }
-{
-    low <= z && z <= high
-}
-
-// Tests that have all been run, joined: a caller then has one equation for the whole, and no chain of branches.
-pub fn both(a: bool, b: bool) -> bool
-    ensures { λ r. ⌜ r ≡ a && b ⌝ }
-{
-    a && b
-}
-
-pub fn all3(a: bool, b: bool, c: bool) -> bool
-    ensures { λ r. ⌜ r ≡ a && b && c ⌝ }
-{
-    both(both(a, b), c)
 }
 
 // The number itself, from 0 up.
@@ -70,7 +54,7 @@ pub fn rising(file: &[u8], from: usize, at: usize, high: i32) -> bool
 
 // The number names one of n registers.
 pub fn named(z: i32, n: usize) -> bool
-    requires { ⌜ n ≤ 256 ⌝ }
+    requires { ⌜ n ≤ mostRegisters ⌝ }
     ensures { λ r. ⌜ r ≡ within (pos 0) (pos n -ℤ pos 1) z ⌝ }
 {
     within(0, n as i32 - 1, z)
@@ -84,8 +68,8 @@ pub fn windowed(i: usize, low: i32, high: i32) -> bool
         both(within(0, 0, low), within(0, 0, high))
     } else {
         both(
-            within(-1_000_000, 1_000_000, low),
-            within(low, 1_000_000, high),
+            within(limits::LEAST_LATENCY, limits::MOST_LATENCY, low),
+            within(low, limits::MOST_LATENCY, high),
         )
     }
 }

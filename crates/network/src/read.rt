@@ -1,10 +1,8 @@
 // The records of a file, by value. What is read of an accepted one lies in its range: proofs/Ranges.antt says so of each field.
-ghost use mathlib.Core.Path.{_≡_};
-ghost use Prim.Native.Nat.{_+_, _≤_, _<_};
-ghost use lib.ListN.{length};
+ghost use Prim.Native.Nat.{_<_};
 ghost use Rattle.paper.specs.File.{networkOf};
 ghost use Rattle.paper.specs.Refusals.{Accepted};
-ghost use Rattle.network.specs.Records.{IsHeader, IsRegister, IsPath};
+ghost use Rattle.network.specs.Records.{IsHeader, IsRegister, IsPath, PathThere};
 use crate::Header;
 use crate::Path;
 use crate::Register;
@@ -39,7 +37,7 @@ pub fn register(file: &[u8], i: usize) -> Register
 
 // The caller has the count n of registers at hand, by which the place of a path's record is found.
 pub fn path(file: &[u8], n: usize, p: usize) -> Path
-    requires { ⌜ Accepted (now file) × (n ≡ networkOf (now file) .registers) × (p < networkOf (now file) .paths) ⌝ }
+    requires { ⌜ PathThere (now file) n p ⌝ }
     ensures { λ r. ⌜ IsPath (networkOf (now (file .entry))) p r ⌝ }
 {
     let r = records::read(file, 22 + 18 * (n + p));

@@ -1,4 +1,5 @@
--- What an accepted file says of its network: every field lies in its range. All that later proofs need of 'accepted' is here, once.
+-- What an accepted file says of its network: every field lies in its range. All that later proofs need of 'accepted' is here, once. Rests
+-- on the definitions of the file alone.
 use mathlib.Core.Path.{_≡_, refl}
 use mathlib.Core.List.{List}
 use mathlib.Core.Bool.{Bool, true, false, _&&_}
@@ -12,6 +13,8 @@ use lib.Dec.{eqb}
 use borrow.Author.Tests.{eqb-true}
 use Rattle.whole.proofs.Lin.{lin, minus, le-goal, le-true, true-not-false}
 use Rattle.whole.specs.Four.{numberAt}
+pub use Rattle.whole.specs.Between.{Between}
+pub use Rattle.paper.specs.Legal.{Legal}
 use Rattle.paper.specs.Network.{Network}
 use Rattle.paper.specs.File.{natural, marked, within, windowed, counted, sized, ranged, registers, paths, registerPlace, pathPlace, registerOk, pathOk, networkOf}
 use Rattle.paper.specs.Table.{Fails, Lowest}
@@ -19,13 +22,10 @@ use Rattle.paper.specs.Refusals.{Accepted}
 
 -- ---- tests that passed
 
+-- two tests joined have both passed
 pub both : (a b : Bool) → a && b ≡ true → (a ≡ true) × (b ≡ true)
 both true b e = (refl, e)
 both false b e = absurd (true-not-false e refl)
-
-pub record Between (low high z : ℤ) : Type 0 where
-  pub from : low ≤ℤ z
-  pub to : z ≤ℤ high
 
 pub within-is : (low high z : ℤ) → within low high z ≡ true → Between low high z
 unfolding within
@@ -59,29 +59,11 @@ module _ (ok : ℕ → Bool) (n : ℕ) (none : (p : ℕ) → Lowest ok n p → �
   pass-below zero l q g = absurd (omega arith)
   pass-below (suc k) l q g = pass-more k l (pass-below k (omega arith)) q g (decLt q k)
 
-  pub all-pass : (p : ℕ) → p < n → ok p ≡ true
+  -- where no record is the lowest faulty one, every record passes
+  all-pass : (p : ℕ) → p < n → ok p ≡ true
   all-pass p l = pass-below n (omega arith) p l
 
 -- ---- every field in its range
-
-pub record Legal (N : Network) : Type 0 where
-  pub registers-from : 1 ≤ N .registers
-  pub registers-to : N .registers ≤ 256
-  pub paths-to : N .paths ≤ 2048
-  pub floor-from : 1 ≤ N .floor
-  pub ceiling-from : N .floor ≤ N .ceiling
-  pub ceiling-to : N .ceiling ≤ 10000000
-  pub setup : (i : ℕ) → i < N .registers → Between (negsuc 99999) (pos 100000) (N .setup i)
-  pub hold : (i : ℕ) → i < N .registers → Between (negsuc 99999) (pos 100000) (N .hold i)
-  pub low : (i : ℕ) → i < N .registers → Between (negsuc 999999) (pos 1000000) (N .low i)
-  pub high : (i : ℕ) → i < N .registers → Between (N .low i) (pos 1000000) (N .high i)
-  pub host-low : N .low 0 ≡ pos 0
-  pub host-high : N .high 0 ≡ pos 0
-  pub from : (p : ℕ) → p < N .paths → N .from p < N .registers
-  pub to : (p : ℕ) → p < N .paths → N .to p < N .registers
-  pub dmin : (p : ℕ) → p < N .paths → Between (pos 0) (N .dmax p) (N .dmin p)
-  pub dmax : (p : ℕ) → p < N .paths → Between (N .dmin p) (pos 1000000) (N .dmax p)
-  pub uncertainty : (p : ℕ) → p < N .paths → Between (pos 0) (pos 10000) (N .uncertainty p)
 
 -- a natural number's bounds from those of the field that it is read from
 natural-bounds : (a b : ℕ) (z : ℤ) → Between (pos a) (pos b) z → (a ≤ natural z) × (natural z ≤ b)
@@ -123,7 +105,8 @@ pub record RegisterPassed (f : List ℕ) (i : ℕ) : Type 0 where
   pub in-hold : Between (negsuc 99999) (pos 100000) (numberAt f (registerPlace f i + 6))
   pub window : windowed i (numberAt f (registerPlace f i + 10)) (numberAt f (registerPlace f i + 14)) ≡ true
 
-pub register-passed : (f : List ℕ) (i : ℕ) → registerOk f i ≡ true → RegisterPassed f i
+-- a register record that passes
+register-passed : (f : List ℕ) (i : ℕ) → registerOk f i ≡ true → RegisterPassed f i
 unfolding registerOk
 register-passed f i e =
     let p = both _ _ e in
@@ -138,7 +121,8 @@ pub record PathPassed (f : List ℕ) (p : ℕ) : Type 0 where
   pub dmin-from : pos 0 ≤ℤ numberAt f (pathPlace f p + 10)
   pub in-dmax : Between (numberAt f (pathPlace f p + 10)) (pos 1000000) (numberAt f (pathPlace f p + 14))
 
-pub path-passed : (f : List ℕ) (p : ℕ) → pathOk f p ≡ true → PathPassed f p
+-- a path record that passes
+path-passed : (f : List ℕ) (p : ℕ) → pathOk f p ≡ true → PathPassed f p
 unfolding pathOk
 path-passed f p e =
     let d = both _ _ e in
@@ -155,7 +139,8 @@ path-passed f p e =
 
 -- ---- the whole network
 
-pub header-passed : (f : List ℕ) → counted f ≡ true → Between (pos 1) (pos 256) (numberAt f 2) × Between (pos 0) (pos 2048) (numberAt f 6)
+-- the two counts of a header that passes
+header-passed : (f : List ℕ) → counted f ≡ true → Between (pos 1) (pos 256) (numberAt f 2) × Between (pos 0) (pos 2048) (numberAt f 6)
 unfolding counted
 header-passed f e = let p = both _ _ e in (within-is _ _ _ (p .0), within-is _ _ _ (p .1))
 
@@ -167,6 +152,7 @@ pub record RangesPassed (f : List ℕ) : Type 0 where
   pub in-ceiling : Between (numberAt f 10) (pos 10000000) (numberAt f 14)
   pub in-uncertainty : Between (pos 0) (pos 10000) (numberAt f 18)
 
+-- floor, ceiling and u of a header that passes
 pub ranges-passed : (f : List ℕ) → ranged f ≡ true → RangesPassed f
 unfolding ranged
 ranges-passed f e =
@@ -184,6 +170,7 @@ end-is : (n : ℕ) (z : ℤ) → 1 ≤ n → Between (pos 0) (pos n -ℤ pos 1) 
 end-is n (pos k) h b = let t = b .to in omega (lin, minus (pos n) (pos 1))
 end-is n (negsuc k) h b = omega arith
 
+-- an accepted file has a legal network
 pub accepted-legal : (f : List ℕ) → Accepted f → Legal (networkOf f)
 unfolding networkOf
 accepted-legal f a =

@@ -1,3 +1,4 @@
+-- Laws of the definitions. Callers read Legal for what an accepted file says, and the laws of rules, loops, tables, numbers and bytes.
 pub mod Legal
 pub mod RuleLaws
 pub mod LoopLaws
@@ -5,4 +6,5 @@ pub mod TableLaws
 pub mod NumberLaws
 pub mod OutputLaws
 pub mod Tests
+pub mod CaseTests
 pub mod WorkedCases

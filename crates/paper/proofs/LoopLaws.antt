@@ -1,5 +1,6 @@
 -- What a loop asks of the period: with setup rules it contradicts itself exactly below its need; without any it contradicts itself at
--- every period or at none. And what it does to schedules: where it contradicts itself, there is none.
+-- every period or at none. And what it does to schedules: where it contradicts itself, there is none. Rests on `RuleLaws`, and on
+-- rounding up (`whole`).
 use mathlib.Core.Path.{_≡_, refl, sym, ap}
 use mathlib.Core.Logic.{_↔_, _≢_}
 use mathlib.Core.List.{List, [], _∷_}

@@ -1,6 +1,6 @@
 -- The cases from their numbers and places: "a definition gives this paper's number and values for each of its cases". A refusal is known from
 -- its number and place, and has a number other than 0 and 7 to 9. That one law is all that is used of refusals here, and from it follow one
--- outcome and one reply, whatever the network and the table of numbers.
+-- outcome and one reply, whatever the network and the table of numbers. Rests on `TableLaws`.
 use mathlib.Core.Path.{_≡_, refl, sym, ap, ap₂, _∙_}
 use mathlib.Core.Logic.{inl, inr}
 use mathlib.Core.List.{List, [], _∷_}
@@ -80,6 +80,7 @@ refusal-apart x n h e =
     let z : _≡_ {A = ℕ} 0 1 = cc in
     omega arith
 
+-- no refusal has number 0
 pub refusal-above : (x : Refusal) → 0 < refusalNumber x
 refusal-above x = let h = refusal-apart x 0 (λ p. refl) in omega arith
 
@@ -108,6 +109,7 @@ fault-of-row f n p (inr (s, inr (t, inr (u, inr (v, inr (w, inr g)))))) = absurd
 abbrev pub Refuses : List Row → Type 0
 Refuses t = (n p : ℕ) → ByRow t n p → (x : Refusal) × (n ≡ refusalNumber x) × (p ≡ refusalPlace x)
 
+-- every row of the faults gives a refusal
 pub faults-refuse : (f : List ℕ) → Refuses (faults f)
 faults-refuse f n p b = let x = fault-of-row f n p b in (File (x .0), x .1, x .2)
 
@@ -159,6 +161,7 @@ rule-named r s k n = sym (back r) ∙ ap₂ ruleOf k n ∙ back s
     back (High i) = refl
 
 module _ (N : Network) (q : asking.Question) where
+  -- a question asks for one rule
   pub asked-one : (r s : Rule) → asking.Asked N q r → asking.Asked N q s → r ≡ s
   asked-one r s a b =
       let k = a .of-kind in

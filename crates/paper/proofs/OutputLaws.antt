@@ -1,5 +1,5 @@
 -- The answer's records: how long they are, what is read back from the first one, and that they hold nothing but their numbers. And bytes
--- stored from the start on stand at the front.
+-- stored from the start on stand at the front. Rests on the four bytes of a number (`whole`).
 use mathlib.Core.Path.{_≡_, refl, _∙_}
 use mathlib.Core.List.{List, [], _∷_, _++_}
 use Prim.Native.Nat.{ℕ, zero, suc, _*_, _≤_, _<_}
@@ -15,6 +15,7 @@ use Rattle.paper.specs.Output.{skewRecord, latencyRecords, entryRecords,
 
 -- ---- "14 bytes", 6 for each latency, 10 for each entry
 
+-- the first record has 14 bytes, a latency 6, an entry 10
 pub skew-length : (P n k : ℕ) → length (skewRecord P n k) ≡ 14
 skew-length P n k = simp (length-append, four-length) refl
 
@@ -33,6 +34,7 @@ unfolding four bytesOf
 back n h = number-first (pos n) [] (record { sfits = omega arith })
 
 module _ (P n k : ℕ) (rest : List ℕ) where
+  -- the three numbers of the first record are read back
   pub period-back : P < 2147483648 → numberAt (skewRecord P n k ++ rest) 2 ≡ pos P
   unfolding numberAt wordAt four bytesOf
   period-back h = back P h
@@ -57,5 +59,6 @@ latencies-same x y (suc n) e =
 
 -- ---- stored from the start on
 
+-- bytes stored from the start on stand at the front
 pub stored-front : (bytes before : List ℕ) → length bytes ≤ length before → Front bytes before (sets before 0 bytes)
 stored-front bytes before h = sets-eq bytes before 0 (omega arith) ∙ rw zero-add refl

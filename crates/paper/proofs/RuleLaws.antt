@@ -1,5 +1,5 @@
 -- The columns of the table of four rules agree: a slack of at least 0, the inequality of the third column, and arrow with amount say the
--- same, and the slack is the arrow's. And a longer period takes no schedule away.
+-- same, and the slack is the arrow's. And a longer period takes no schedule away. Rests on whole numbers alone.
 use mathlib.Core.Path.{_≡_}
 use mathlib.Core.Logic.{_↔_}
 use Prim.Native.Nat.{ℕ, _≤_}

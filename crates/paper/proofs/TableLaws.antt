@@ -1,5 +1,5 @@
 -- What a table of numbers gives, it gives once: where each row has one place, one number and one place. And what is known of each row's
--- places is known of the place that is given.
+-- places is known of the place that is given. Rests on `Legal` for the bound of a file's places.
 use mathlib.Core.Path.{_≡_, sym, _∙_}
 use mathlib.Core.Logic.{_⊎_, inl, inr}
 use mathlib.Core.List.{List, [], _∷_, _++_}
@@ -102,6 +102,7 @@ given-before [] s n p b = absurd b
 given-before (r ∷ t) s n p (inl b) = inl b
 given-before (r ∷ t) s n p (inr b) = inr (b .0, given-before t s n p (b .1))
 
+-- what a row gives, its table gives
 pub by-row-given : (t : List Row) (n p : ℕ) → ByRow t n p → Given t n p
 by-row-given [] n p b = absurd b
 by-row-given (r ∷ t) n p (inl b) = inl b
@@ -145,6 +146,7 @@ passed e p x = true-not-false e (x .0)
 pub all-passed : {ok : ℕ → Bool} {n : ℕ} → ((p : ℕ) → p < n → ok p ≡ true) → (p : ℕ) → Lowest ok n p → ⊥
 all-passed all p x = true-not-false (all p (x .0)) (x .1)
 
+-- each row of the scheduler and of the question has one place
 pub schedule-one-place : (N : Network) (room : ℕ) → OnePlaces (scheduleRows N room)
 schedule-one-place N room = (fails-one _, (when-one _, (when-one _, tt)))
 
@@ -155,6 +157,7 @@ question-one-place N q = (when-one _, tt)
 at-zero : {b : ℕ} → 0 < b → (p : ℕ) → p ≡ 0 → p < b
 at-zero h p e = omega arith
 
+-- and each such place lies below 2,048
 pub schedule-below : (N : Network) (room : ℕ) → Below 2048 (scheduleRows N room)
 schedule-below N room =
     ((λ p a. at-zero (omega arith) p (a .1)), λ _. ((λ p a. at-zero (omega arith) p (a .1)), λ _. ((λ p a. at-zero (omega arith) p (a .1)), λ _. tt)))
@@ -193,9 +196,11 @@ module _ (f : List ℕ) where
   pub refusals-rising : (room : ℕ) → Rising 0 (refusals f room)
   refusals-rising room = omega arith
 
+  -- no row of the faults has number 0
   pub faults-numbered : Numbered (faults f)
   faults-numbered = omega arith
 
+  -- so it is of the scheduler's table, and of the question's
   pub refusals-one-place : (room : ℕ) → OnePlaces (refusals f room)
   refusals-one-place room = one-places-append (faults f) (scheduleRows _ room) faults-one-place (schedule-one-place _ room)
 

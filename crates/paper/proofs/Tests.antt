@@ -1,4 +1,5 @@
--- Tests that compute, each with what it shows when it passes. A statement over a table is then one test, run once.
+-- Tests that compute, each with what it shows when it passes. A statement over a table is then a test that is run. Rests on
+-- `both` of `Legal`.
 use mathlib.Core.Path.{_≡_, refl}
 use mathlib.Core.Logic.{_≢_}
 use mathlib.Core.List.{List, [], _∷_}

@@ -1,271 +1,60 @@
--- The paper's eleven worked networks meet the definitions: one test, run over the whole table, and what it shows of a row when it passes.
-use mathlib.Core.Path.{_≡_, refl}
-use mathlib.Core.Logic.{inl, inr}
-use mathlib.Core.List.{List, [], _∷_}
-use mathlib.Core.Bool.{Bool, true}
-use Prim.Native.Nat.{ℕ, zero, suc, pred, _+_, _-_, _*_, _≤_, _<_}
-use native.Mathlib.Omega.{arith}
-use lib.IntN.{ℤ, pos, negℤ}
-use lib.Signed.{_≤ℤ_}
-use lib.ListN.{length, getD}
-use lib.Dec.{leb}
-use borrow.Author.Tests.{le-leb}
+-- The paper's eleven worked networks meet the definitions. Each row is a statement of its own, shown by computing its test, so that a row
+-- that does not meet them is refused by name; the table is made of the rows. Rests on `CaseTests`.
+use mathlib.Core.Path.{refl}
+use mathlib.Core.List.{[], _∷_}
+use lib.IntN.{pos, negℤ}
 use Rattle.whole.specs.Four.{wordAt, signedOf, numberAt, wordOf, bytesOf, four}
-use Rattle.whole.specs.Sums.{total}
-use Rattle.whole.proofs.Lin.{lin}
-use Rattle.paper.specs.Network.{Network}
-use Rattle.paper.specs.Rules.{Rule, Setup, Hold, Low, High, Exists, Holds, tail, head, amount, slack}
-use Rattle.paper.specs.Chains.{All, Chain, Once, Loop, Listed}
-use Rattle.paper.specs.Schedule.{Schedule, Contradicts, setups, Answer, Refutes, Shown}
-use Rattle.paper.specs.File.{marked, within, windowed, headed, counted, sized, ranged, registers, paths, registerOk, pathOk, networkOf}
-use Rattle.paper.specs.Table.{Fails, Lowest, Given}
-use Rattle.paper.specs.Refusals.{faults, refusals, scheduleRows, Accepted}
-use Rattle.paper.specs.Cases.{Expected, answered, refused-8, refused-9, Case, Comes, numberOf, Worked, fileOf, cases}
-use Rattle.paper.proofs.Legal.{accepted-legal}
-use Rattle.paper.proofs.RuleLaws.{met-is-rule}
-use Rattle.paper.proofs.LoopLaws.{contradicts-always, chain-binds-schedule, no-schedule}
-use Rattle.paper.proofs.TableLaws.{given-after, passed, all-passed}
-use Rattle.paper.proofs.Tests.{Test, via, pair, nothing, never, isTrue, less, atMost, same, differ, atMostℤ, lessℤ, every, below}
+use Rattle.paper.specs.Rules.{Setup, Hold}
+use Rattle.paper.specs.Chains.{All}
+use Rattle.paper.specs.File.{marked, within, windowed, headed, counted, sized, ranged, registerOk, pathOk, networkOf}
+use Rattle.paper.specs.Cases.{Worked, fileOf, cases, caseA, caseA2, caseA3, caseA4, caseA5, caseA6, caseA7, caseB, caseD, caseE, caseF}
+use Rattle.paper.proofs.CaseTests.{workedTest, by-chains, by-loop, by-later}
 
--- ---- an accepted file
+row-A : Worked caseA
+unfolding fileOf networkOf headed counted sized ranged registerOk pathOk marked within windowed numberAt wordAt signedOf four bytesOf wordOf
+row-A = workedTest caseA (by-chains ([] ∷ (Setup 0 ∷ []) ∷ (Hold 2 ∷ []) ∷ [])) .shows refl
 
-abbrev passing : (ok : Bool) → Test ((p : ℕ) → Fails ok p → ⊥)
-passing ok = via (passed {ok = ok}) (isTrue ok)
+row-A2 : Worked caseA2
+unfolding fileOf networkOf headed counted sized ranged registerOk pathOk marked within windowed numberAt wordAt signedOf four bytesOf wordOf
+row-A2 = workedTest caseA2 (by-chains ([] ∷ (Setup 0 ∷ []) ∷ (Hold 2 ∷ []) ∷ [])) .shows refl
 
-abbrev all-passing : (ok : ℕ → Bool) (n : ℕ) → Test ((p : ℕ) → Lowest ok n p → ⊥)
-all-passing ok n = via (all-passed {ok = ok} {n = n}) (below (λ i. ok i ≡ true) (λ i. isTrue (ok i)) n)
+row-A3 : Worked caseA3
+unfolding fileOf networkOf headed counted sized ranged registerOk pathOk marked within windowed numberAt wordAt signedOf four bytesOf wordOf
+row-A3 = workedTest caseA3 (by-chains ([] ∷ (Hold 2 ∷ Hold 1 ∷ []) ∷ (Hold 2 ∷ []) ∷ [])) .shows refl
 
-abbrev acceptedTest : (f : List ℕ) → Test (Accepted f)
-acceptedTest f =
-    pair (passing (headed f))
-    (pair (passing (counted f))
-    (pair (passing (sized f))
-    (pair (passing (ranged f))
-    (pair (all-passing (registerOk f) (registers f)) (pair (all-passing (pathOk f) (paths f)) nothing)))))
+row-A4 : Worked caseA4
+unfolding fileOf networkOf headed counted sized ranged registerOk pathOk marked within windowed numberAt wordAt signedOf four bytesOf wordOf
+row-A4 = workedTest caseA4 (by-later 9 (pos 0 ∷ pos 1 ∷ negℤ (pos 1) ∷ [])) .shows refl
 
--- ---- loops and schedules of a network
+row-A5 : Worked caseA5
+unfolding fileOf networkOf headed counted sized ranged registerOk pathOk marked within windowed numberAt wordAt signedOf four bytesOf wordOf
+row-A5 = workedTest caseA5 (by-chains ([] ∷ (Setup 0 ∷ []) ∷ (Hold 2 ∷ []) ∷ [])) .shows refl
 
-module _ (N : Network) where
-  abbrev existsTest : (r : Rule) → Test (Exists N r)
-  existsTest (Setup p) = less p (N .paths)
-  existsTest (Hold p) = less p (N .paths)
-  existsTest (Low i) = pair (less 0 i) (less i (N .registers))
-  existsTest (High i) = pair (less 0 i) (less i (N .registers))
+row-A6 : Worked caseA6
+unfolding fileOf networkOf headed counted sized ranged registerOk pathOk marked within windowed numberAt wordAt signedOf four bytesOf wordOf
+row-A6 = workedTest caseA6 (by-chains ([] ∷ (Setup 0 ∷ []) ∷ (Hold 2 ∷ []) ∷ [])) .shows refl
 
-  abbrev chainTest : (u : ℕ) (l : List Rule) (v : ℕ) → Test (Chain (tail N) (head N) u l v)
-  chainTest u [] v = same u v
-  chainTest u (r ∷ l) v = pair (same (tail N r) u) (chainTest (head N r) l v)
+row-A7 : Worked caseA7
+unfolding fileOf networkOf headed counted sized ranged registerOk pathOk marked within windowed numberAt wordAt signedOf four bytesOf wordOf
+row-A7 = workedTest caseA7 by-loop .shows refl
 
-  abbrev onceTest : (l : List Rule) → Test (Once (tail N) (head N) l)
-  onceTest [] = nothing
-  onceTest (r ∷ l) = pair (every _ (λ s. differ (tail N s) (tail N r)) l) (onceTest l)
+row-B : Worked caseB
+unfolding fileOf networkOf headed counted sized ranged registerOk pathOk marked within windowed numberAt wordAt signedOf four bytesOf wordOf
+row-B = workedTest caseB by-loop .shows refl
 
-  abbrev loopTest : (l : List Rule) → Test (Loop (tail N) (head N) l)
-  loopTest [] = never _
-  loopTest (r ∷ l) = pair (chainTest (tail N r) (r ∷ l) (tail N r)) (onceTest (r ∷ l))
+row-D : Worked caseD
+unfolding fileOf networkOf headed counted sized ranged registerOk pathOk marked within windowed numberAt wordAt signedOf four bytesOf wordOf
+row-D = workedTest caseD (by-chains ([] ∷ (Setup 0 ∷ []) ∷ [])) .shows refl
 
-  abbrev listedTest : (l : List Rule) → Test (Listed (tail N) (head N) l)
-  listedTest [] = nothing
-  listedTest (r ∷ l) = every _ (λ s. atMost (tail N r) (tail N s)) l
+row-E : Worked caseE
+unfolding fileOf networkOf headed counted sized ranged registerOk pathOk marked within windowed numberAt wordAt signedOf four bytesOf wordOf
+row-E = workedTest caseE (by-chains ([] ∷ (Setup 0 ∷ []) ∷ [])) .shows refl
 
-  refutes : (P : ℕ) (l : List Rule) → (All (Exists N) l × Loop (tail N) (head N) l) × (Listed (tail N) (head N) l × Contradicts N P l) → Refutes N P l
-  refutes P l h =
-      record { is-loop = record { exist = h .0 .0; loop = h .0 .1 }; listed = h .1 .0; contradicts = h .1 .1 }
-
-  abbrev refutesTest : (P : ℕ) (l : List Rule) → Test (Refutes N P l)
-  refutesTest P l =
-      via (refutes P l)
-      (pair (pair (every _ existsTest l) (loopTest l)) (pair (listedTest l) (lessℤ (pos 0) (total (amount N P) l))))
-
-  by-number : (A : Rule → Type 0)
-      → ((p : ℕ) → p < N .paths → A (Setup p) × A (Hold p))
-      × ((i : ℕ) → i < pred (N .registers) → A (Low (suc i)) × A (High (suc i)))
-      → (r : Rule)
-      → Exists N r → A r
-  by-number A h (Setup p) e = h .0 p e .0
-  by-number A h (Hold p) e = h .0 p e .1
-  by-number A h (Low zero) e = absurd (omega (arith, e .0))
-  by-number A h (Low (suc i)) e = h .1 i (omega (arith, e .1)) .0
-  by-number A h (High zero) e = absurd (omega (arith, e .0))
-  by-number A h (High (suc i)) e = h .1 i (omega (arith, e .1)) .1
-
-  -- every rule that exists: the paths' setup and hold, the registers' low and high from 1
-  abbrev everyRule : (A : Rule → Type 0) → ((r : Rule) → Test (A r)) → Test ((r : Rule) → Exists N r → A r)
-  everyRule A t =
-      via (by-number A)
-      (pair (below (λ p. A (Setup p) × A (Hold p)) (λ p. pair (t (Setup p)) (t (Hold p))) (N .paths))
-      (below (λ i. A (Low (suc i)) × A (High (suc i))) (λ i. pair (t (Low (suc i))) (t (High (suc i)))) (pred (N .registers))))
-
-  schedule : (P : ℕ) (x : ℕ → ℤ) → ((x 0 ≤ℤ pos 0) × (pos 0 ≤ℤ x 0)) × ((r : Rule) → Exists N r → Holds N P x r) → Schedule N P x
-  schedule P x h = let a = h .0 .0 in let b = h .0 .1 in record { host = omega lin; meets = h .1 }
-
-  abbrev scheduleTest : (P : ℕ) (x : ℕ → ℤ) → Test (Schedule N P x)
-  scheduleTest P x =
-      via (schedule P x)
-      (pair (pair (atMostℤ (x 0) (pos 0)) (atMostℤ (pos 0) (x 0)))
-      (everyRule (Holds N P x) (λ r. via (met-is-rule N P x r .0) (atMostℤ (pos 0) (slack N P r (x (tail N r)) (x (head N r)))))))
-
-  -- ---- the answer
-
-  -- a chain of rules from the host to register i whose amounts add up to at least z: no schedule at P has less than z there
-  abbrev pub Climb : ℕ → ℤ → ℕ → List Rule → Type 0
-  Climb P z i l = (All (Exists N) l × Chain (tail N) (head N) 0 l i) × (z ≤ℤ total (amount N P) l)
-
-  abbrev climbTest : (P : ℕ) (z : ℤ) (i : ℕ) (l : List Rule) → Test (Climb P z i l)
-  climbTest P z i l = pair (pair (every _ existsTest l) (chainTest 0 l i)) (atMostℤ z (total (amount N P) l))
-
-  -- "the smallest latency each register has over all schedules at that P"
-  pub climbs-least : (P : ℕ) (z : ℤ) (i : ℕ) (l : List Rule) → Climb P z i l → (y : ℕ → ℤ) → Schedule N P y → z ≤ℤ y i
-  climbs-least P z i l c y s =
-      let up = chain-binds-schedule N P y s l 0 i (c .0 .0) (c .0 .1) in
-      let enough = c .1 in
-      let host = s .host in
-      omega lin
-
-  abbrev shownTest : (P : ℕ) (l : List Rule) → Test (Shown N P l)
-  shownTest P [] = same P (N .floor)
-  shownTest P (r ∷ l) = pair (less (N .floor) P) (refutesTest (P - 1) (r ∷ l))
-
-  -- so "the smallest whole P from floor to ceiling": where a loop is shown, no period from the floor on below P has a schedule
-  pub shown-smallest : (P : ℕ) (l : List Rule) → Shown N P l → (Q : ℕ) → N .floor ≤ Q → Q < P → (y : ℕ → ℤ) → Schedule N Q y → ⊥
-  shown-smallest P [] e Q f h y s = omega arith
-  shown-smallest P (r ∷ l) e Q f h y s = no-schedule N (P - 1) Q (r ∷ l) (e .1) (omega arith) y s
-
--- ---- a row
-
--- What no reader needs: for each register a chain of rules, met with equality, that leads to it from the host; or, for a network that is
--- refused with 9, a period above the ceiling and its latencies.
-record Witness : Type 0 where
-  chains : List (List Rule)
-  period : ℕ
-  latencies : List ℤ
-
-abbrev rowOf : List ℤ → ℕ → ℤ
-rowOf latencies i = getD latencies i (pos 0)
-
-module _ (N : Network) (w : Witness) where
-  abbrev Found : ℕ → List ℤ → List Rule → Type 0
-  Found P l loop =
-      ((length l ≡ N .registers) × ((N .floor ≤ P) × (P ≤ N .ceiling)))
-      × (Schedule N P (rowOf l)
-      × (Shown N P loop × ((i : ℕ) → i < N .registers → Climb N P (rowOf l i) i (getD (w .chains) i []))))
-
-  found-comes : (P : ℕ) (l : List ℤ) (loop : List Rule) → Found P l loop → Comes N (answered P l loop)
-  found-comes P l loop h = (
-    h .0 .0,
-    record {
-      from-floor = h .0 .1 .0;
-      to-ceiling = h .0 .1 .1;
-      schedule = h .1 .0;
-      smallest = shown-smallest N P loop (h .1 .1 .0);
-      least = λ y s i b. climbs-least N P (rowOf l i) i (getD (w .chains) i []) (h .1 .1 .1 i b) y s;
-    },
-    h .1 .1 .0,
-  )
-
-  always-comes : (loop : List Rule) → (setups loop ≡ 0) × Refutes N 0 loop → Comes N (refused-8 loop)
-  always-comes loop h = ((λ P f s. no-schedule N P P loop (at P) (omega arith) (s .0) (s .1)), h .0, at)
-    where
-      at : (P : ℕ) → Refutes N P loop
-      at P =
-          record {
-            is-loop = h .1 .is-loop;
-            listed = h .1 .listed;
-            contradicts = contradicts-always N 0 P loop (h .0) .0 (h .1 .contradicts);
-          }
-
-  ceiling-comes : (loop : List Rule) → Refutes N (N .ceiling) loop × ((1 ≤ w .period) × Schedule N (w .period) (rowOf (w .latencies))) → Comes N (refused-9 loop)
-  ceiling-comes loop h = (
-    record {
-      some = (w .period, h .1 .0, (rowOf (w .latencies), h .1 .1));
-      none = λ P f b s. no-schedule N (N .ceiling) P loop (h .0) b (s .0) (s .1);
-    },
-    h .0,
-  )
-
-  abbrev comesTest : (e : Expected) → Test (Comes N e)
-  comesTest (answered P l loop) =
-      via (found-comes P l loop)
-      (pair (pair (same (length l) (N .registers)) (pair (atMost (N .floor) P) (atMost P (N .ceiling))))
-      (pair (scheduleTest N P (rowOf l))
-      (pair (shownTest N P loop)
-      (below _ (λ i. climbTest N P (rowOf l i) i (getD (w .chains) i [])) (N .registers)))))
-  comesTest (refused-8 loop) = via (always-comes loop) (pair (same (setups loop) 0) (refutesTest N 0 loop))
-  comesTest (refused-9 loop) =
-      via (ceiling-comes loop)
-      (pair (refutesTest N (N .ceiling) loop) (pair (atMost 1 (w .period)) (scheduleTest N (w .period) (rowOf (w .latencies)))))
-
--- "given exactly when": what comes of an accepted file fixes the number that is returned
-module _ (f : List ℕ) (a : Accepted f) (room : ℕ) (enough : 14 + 16 * networkOf f .registers ≤ room) where
-  roomy : (p : ℕ) → Fails (leb (14 + 16 * networkOf f .registers) room) p → ⊥
-  roomy = passed (le-leb _ _ enough)
-
-  answer-given : (P : ℕ) (x : ℕ → ℤ) → Answer (networkOf f) P x → Given (refusals f room) 0 0
-  answer-given P x h =
-      let from = accepted-legal f a .floor-from in
-      let on = h .from-floor in
-      given-after (faults f) (scheduleRows (networkOf f) room) 0 0 a
-      (inr (
-        roomy,
-        inr (
-          (λ p n. n .0 P (omega arith) (x, h .schedule)),
-          inr ((λ p n. n .0 .none P (omega arith) (h .to-ceiling) (x, h .schedule)), (refl, refl)),
-        ),
-      ))
-
-  pub comes-given : (e : Expected) → Comes (networkOf f) e → Given (refusals f room) (numberOf e) 0
-  comes-given (answered P l loop) h = answer-given P (rowOf l) (h .1)
-  comes-given (refused-8 loop) h = given-after (faults f) (scheduleRows (networkOf f) room) 8 0 a (inr (roomy, inl (refl, (h .0, refl))))
-  comes-given (refused-9 loop) h =
-      given-after (faults f) (scheduleRows (networkOf f) room) 9 0 a
-      (inr (roomy, inr ((λ p n. let s = h .0 .some in n .0 (s .0) (s .1) (s .2)), inl (refl, (h .0, refl)))))
-
-worked : (c : Case) → Accepted (fileOf (c .network)) × Comes (networkOf (fileOf (c .network))) (c .result) → Worked c
-worked c h =
-    record {
-      accepted = h .0;
-      given = λ room enough. comes-given (fileOf (c .network)) (h .0) room enough (c .result) (h .1);
-      comes = h .1;
-    }
-
-abbrev workedTest : (c : Case) → Witness → Test (Worked c)
-workedTest c w =
-    via (worked c) (pair (acceptedTest (fileOf (c .network))) (comesTest (networkOf (fileOf (c .network))) w (c .result)))
-
--- ---- the table
-
-abbrev tableTest : (cs : List Case) → List Witness → Test (All Worked cs)
-tableTest [] ws = nothing
-tableTest (c ∷ cs) [] = never _
-tableTest (c ∷ cs) (w ∷ ws) = pair (workedTest c w) (tableTest cs ws)
-
-abbrev by-chains : List (List Rule) → Witness
-by-chains l = record { chains = l; period = 0; latencies = [] }
-
-abbrev by-loop : Witness
-by-loop = record { chains = []; period = 0; latencies = [] }
-
-abbrev by-later : ℕ → List ℤ → Witness
-by-later P l = record { chains = []; period = P; latencies = l }
-
-witnesses : List Witness
-witnesses =
-    -- A, A2, A3, A4, A5, A6, A7
-    by-chains ([] ∷ (Setup 0 ∷ []) ∷ (Hold 2 ∷ []) ∷ [])
-    ∷ by-chains ([] ∷ (Setup 0 ∷ []) ∷ (Hold 2 ∷ []) ∷ [])
-    ∷ by-chains ([] ∷ (Hold 2 ∷ Hold 1 ∷ []) ∷ (Hold 2 ∷ []) ∷ [])
-    ∷ by-later 9 (pos 0 ∷ pos 1 ∷ negℤ (pos 1) ∷ [])
-    ∷ by-chains ([] ∷ (Setup 0 ∷ []) ∷ (Hold 2 ∷ []) ∷ [])
-    ∷ by-chains ([] ∷ (Setup 0 ∷ []) ∷ (Hold 2 ∷ []) ∷ [])
-    ∷ by-loop
-    -- B, D, E, F
-    ∷ by-loop
-    ∷ by-chains ([] ∷ (Setup 0 ∷ []) ∷ [])
-    ∷ by-chains ([] ∷ (Setup 0 ∷ []) ∷ [])
-    ∷ by-chains ([] ∷ [])
-    ∷ []
+row-F : Worked caseF
+unfolding fileOf networkOf headed counted sized ranged registerOk pathOk marked within windowed numberAt wordAt signedOf four bytesOf wordOf
+row-F = workedTest caseF (by-chains ([] ∷ [])) .shows refl
 
 -- "Cases A to F above (eleven in all) are checked against the definitions as a single table under one proved statement."
 pub worked-cases : All Worked cases
-unfolding cases witnesses fileOf networkOf headed counted sized ranged registerOk pathOk marked within windowed numberAt wordAt signedOf four bytesOf wordOf
-worked-cases = tableTest cases witnesses .shows refl
+unfolding cases
+worked-cases = (row-A, (row-A2, (row-A3, (row-A4, (row-A5, (row-A6, (row-A7, (row-B, (row-D, (row-E, (row-F, tt)))))))))))

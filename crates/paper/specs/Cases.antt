@@ -12,6 +12,7 @@ use Rattle.paper.specs.Schedule.{Answer, Shown, Refutes, setups}
 use Rattle.paper.specs.File.{networkOf}
 use Rattle.paper.specs.Table.{Given}
 use Rattle.paper.specs.Refusals.{Accepted, refusals, NoPeriod, NoneToCeiling}
+use Rattle.paper.specs.Limits.{roomFor}
 
 -- ---- a network in the paper's terms, and its file
 
@@ -20,7 +21,7 @@ abbrev pub Fields : Type 0
 Fields = ℤ × ℤ × ℤ × ℤ
 
 -- n and m are the numbers of its registers and of its paths
-pub record Written : Type 0 where
+pub record Described : Type 0 where
   pub floor : ℤ
   pub ceiling : ℤ
   pub u : ℤ
@@ -32,7 +33,7 @@ abbrev pub records : ℕ → ℕ → List Fields → List ℕ
 records a b [] = []
 records a b (r ∷ l) = a ∷ b ∷ (four (r .0) ++ four (r .1) ++ four (r .2) ++ four (r .3) ++ records a b l)
 
-unfoldable pub fileOf : Written → List ℕ
+unfoldable pub fileOf : Described → List ℕ
 fileOf w =
     78 ∷ 87
     ∷ (four (pos (length (w .registers)))
@@ -51,7 +52,7 @@ pub data Expected : Type 0 where
   refused-9 : (loop : List Rule) → Expected
 
 pub record Case : Type 0 where
-  pub network : Written
+  pub network : Described
   pub result : Expected
 
 abbrev pub Comes : Network → Expected → Type 0
@@ -69,15 +70,15 @@ numberOf (refused-9 loop) = 9
 -- says.
 pub record Worked (c : Case) : Type 0 where
   pub accepted : Accepted (fileOf (c .network))
-  pub given : (room : ℕ) → 14 + 16 * networkOf (fileOf (c .network)) .registers ≤ room
+  pub given : (room : ℕ) → roomFor (networkOf (fileOf (c .network)) .registers) ≤ room
       → Given (refusals (fileOf (c .network)) room) (numberOf (c .result)) 0
   pub comes : Comes (networkOf (fileOf (c .network))) (c .result)
 
--- ---- the table
+-- ---- the networks
 
 -- "Network A: n = 3, floor 1, ceiling 100, u 0; setup 1, hold 1 for each register; windows -10 to 10 for 1 and 2. Paths (from, to, dmin,
 -- dmax): 0: (0, 1, 2, 9); 1: (1, 2, 2, 3); 2: (2, 0, 2, 6)."
-abbrev pub networkA : ℕ → ℕ → ℕ → Written
+abbrev pub networkA : ℕ → ℕ → ℕ → Described
 networkA floor ceiling u =
     record {
       floor = pos floor;
@@ -96,7 +97,7 @@ networkA floor ceiling u =
     }
 
 -- "Network D: n = 2, floor 1, ceiling 100, u 0, all setup and hold 0, window -10 to 10. Paths (0, 1, 5, 10) and (1, 0, 5, 5)."
-abbrev pub networkD : ℤ → ℤ → Written
+abbrev pub networkD : ℤ → ℤ → Described
 networkD low high =
     record {
       floor = pos 1;
@@ -107,7 +108,7 @@ networkD low high =
     }
 
 -- "Where B or F names no floor, ceiling, u, setup or hold, these are 1, 100, 0, 0 and 0.": the host alone
-abbrev pub hostAlone : ℤ → List Fields → Written
+abbrev pub hostAlone : ℤ → List Fields → Described
 hostAlone hold paths =
     record {
       floor = pos 1;
@@ -117,28 +118,51 @@ hostAlone hold paths =
       paths = paths;
     }
 
+-- ---- the rows: one name each, by which the check names a row that does not meet the definitions
+
+-- A: "period 9, latency 0 0, latency 1 1, latency 2 -1, loop 8, setup 0, hold 0"
+abbrev pub caseA : Case
+caseA = record { network = networkA 1 100 0; result = answered 9 (pos 0 ∷ pos 1 ∷ negℤ (pos 1) ∷ []) (Setup 0 ∷ Hold 0 ∷ []) }
+
+-- A2: "A, floor 9": "period 9, latencies 0, 1, -1, no loop"
+abbrev pub caseA2 : Case
+caseA2 = record { network = networkA 9 100 0; result = answered 9 (pos 0 ∷ pos 1 ∷ negℤ (pos 1) ∷ []) [] }
+
+-- A3: "A, floor 20": "period 20, latencies 0, -2, -1, no loop"
+abbrev pub caseA3 : Case
+caseA3 = record { network = networkA 20 100 0; result = answered 20 (pos 0 ∷ negℤ (pos 2) ∷ negℤ (pos 1) ∷ []) [] }
+
+-- A4: "A, ceiling 8": "refused 9, loop setup 0, hold 0"
+abbrev pub caseA4 : Case
+caseA4 = record { network = networkA 1 8 0; result = refused-9 (Setup 0 ∷ Hold 0 ∷ []) }
+
+-- A5: "A, ceiling 9": "as A"
+abbrev pub caseA5 : Case
+caseA5 = record { network = networkA 1 9 0; result = answered 9 (pos 0 ∷ pos 1 ∷ negℤ (pos 1) ∷ []) (Setup 0 ∷ Hold 0 ∷ []) }
+
+-- A6: "A, u 1": "period 11, latencies 0, 0, 0, loop setup 0, hold 0"
+abbrev pub caseA6 : Case
+caseA6 = record { network = networkA 1 100 1; result = answered 11 (pos 0 ∷ pos 0 ∷ pos 0 ∷ []) (Setup 0 ∷ Hold 0 ∷ []) }
+
+-- A7: "A, u 2": "refused 8, loop hold 2, hold 1, hold 0"
+abbrev pub caseA7 : Case
+caseA7 = record { network = networkA 1 100 2; result = refused-8 (Hold 2 ∷ Hold 1 ∷ Hold 0 ∷ []) }
+
+-- B: "n = 1, hold 1, setup 0, u 0, path (0, 0, 0, 5)": "refused 8, loop hold 0"
+abbrev pub caseB : Case
+caseB = record { network = hostAlone (pos 1) ((pos 0, pos 0, pos 0, pos 5) ∷ []); result = refused-8 (Hold 0 ∷ []) }
+
+-- D: "period 8, latencies 0, 2, loop setup 0, setup 1"
+abbrev pub caseD : Case
+caseD = record { network = networkD (negℤ (pos 10)) (pos 10); result = answered 8 (pos 0 ∷ pos 2 ∷ []) (Setup 0 ∷ Setup 1 ∷ []) }
+
+-- E: "D, window of 1 is 0 to 1": "period 9, latencies 0, 1, loop setup 0, high 1"
+abbrev pub caseE : Case
+caseE = record { network = networkD (pos 0) (pos 1); result = answered 9 (pos 0 ∷ pos 1 ∷ []) (Setup 0 ∷ High 1 ∷ []) }
+
+-- F: "n = 1, no paths, floor 1": "period 1, latency 0, no loop"
+abbrev pub caseF : Case
+caseF = record { network = hostAlone (pos 0) []; result = answered 1 (pos 0 ∷ []) [] }
+
 unfoldable pub cases : List Case
-cases =
-    -- A: "period 9, latency 0 0, latency 1 1, latency 2 -1, loop 8, setup 0, hold 0"
-    record { network = networkA 1 100 0; result = answered 9 (pos 0 ∷ pos 1 ∷ negℤ (pos 1) ∷ []) (Setup 0 ∷ Hold 0 ∷ []) }
-    -- A2: "A, floor 9": "period 9, latencies 0, 1, -1, no loop"
-    ∷ record { network = networkA 9 100 0; result = answered 9 (pos 0 ∷ pos 1 ∷ negℤ (pos 1) ∷ []) [] }
-    -- A3: "A, floor 20": "period 20, latencies 0, -2, -1, no loop"
-    ∷ record { network = networkA 20 100 0; result = answered 20 (pos 0 ∷ negℤ (pos 2) ∷ negℤ (pos 1) ∷ []) [] }
-    -- A4: "A, ceiling 8": "refused 9, loop setup 0, hold 0"
-    ∷ record { network = networkA 1 8 0; result = refused-9 (Setup 0 ∷ Hold 0 ∷ []) }
-    -- A5: "A, ceiling 9": "as A"
-    ∷ record { network = networkA 1 9 0; result = answered 9 (pos 0 ∷ pos 1 ∷ negℤ (pos 1) ∷ []) (Setup 0 ∷ Hold 0 ∷ []) }
-    -- A6: "A, u 1": "period 11, latencies 0, 0, 0, loop setup 0, hold 0"
-    ∷ record { network = networkA 1 100 1; result = answered 11 (pos 0 ∷ pos 0 ∷ pos 0 ∷ []) (Setup 0 ∷ Hold 0 ∷ []) }
-    -- A7: "A, u 2": "refused 8, loop hold 2, hold 1, hold 0"
-    ∷ record { network = networkA 1 100 2; result = refused-8 (Hold 2 ∷ Hold 1 ∷ Hold 0 ∷ []) }
-    -- B: "n = 1, hold 1, setup 0, u 0, path (0, 0, 0, 5)": "refused 8, loop hold 0"
-    ∷ record { network = hostAlone (pos 1) ((pos 0, pos 0, pos 0, pos 5) ∷ []); result = refused-8 (Hold 0 ∷ []) }
-    -- D: "period 8, latencies 0, 2, loop setup 0, setup 1"
-    ∷ record { network = networkD (negℤ (pos 10)) (pos 10); result = answered 8 (pos 0 ∷ pos 2 ∷ []) (Setup 0 ∷ Setup 1 ∷ []) }
-    -- E: "D, window of 1 is 0 to 1": "period 9, latencies 0, 1, loop setup 0, high 1"
-    ∷ record { network = networkD (pos 0) (pos 1); result = answered 9 (pos 0 ∷ pos 1 ∷ []) (Setup 0 ∷ High 1 ∷ []) }
-    -- F: "n = 1, no paths, floor 1": "period 1, latency 0, no loop"
-    ∷ record { network = hostAlone (pos 0) []; result = answered 1 (pos 0 ∷ []) [] }
-    ∷ []
+cases = caseA ∷ caseA2 ∷ caseA3 ∷ caseA4 ∷ caseA5 ∷ caseA6 ∷ caseA7 ∷ caseB ∷ caseD ∷ caseE ∷ caseF ∷ []

@@ -12,7 +12,9 @@ use lib.Signed.{leZ}
 use lib.ListN.{length, getD}
 use lib.Dec.{leb, eqb}
 use Rattle.whole.specs.Four.{numberAt}
+unfoldable pub use Rattle.whole.specs.Within.{within}
 use Rattle.paper.specs.Network.{Network}
+use Rattle.paper.specs.Limits.{mostRegisters, mostPaths, mostPeriod, mostUncertainty, leastSetup, mostSetup, leastLatency, mostLatency, mostDelay}
 
 -- a number that counts, or names a register: the number itself, from 0 up
 abbrev pub natural : ℤ → ℕ
@@ -23,16 +25,12 @@ natural (negsuc n) = 0
 unfoldable pub marked : List ℕ → ℕ → ℕ → ℕ → Bool
 marked f i a b = eqb (getD f i 0) a && eqb (getD f (i + 1) 0) b
 
--- low ≤ z ≤ high
-unfoldable pub within : ℤ → ℤ → ℤ → Bool
-within low high z = leZ low z && leZ z high
-
 -- a register's window: both ends 0 for register 0
 unfoldable pub windowed : ℕ → ℤ → ℤ → Bool
 windowed i low high =
     cond (eqb i 0)
     (within (pos 0) (pos 0) low && within (pos 0) (pos 0) high)
-    (within (negsuc 999999) (pos 1000000) low && within low (pos 1000000) high)
+    (within leastLatency mostLatency low && within low mostLatency high)
 
 module _ (f : List ℕ) where
   abbrev pub registers : ℕ
@@ -55,7 +53,7 @@ module _ (f : List ℕ) where
   -- | n           | 1 to 256                                                       |
   -- | m           | 0 to 2,048                                                     |
   unfoldable pub counted : Bool
-  counted = within (pos 1) (pos 256) (numberAt f 2) && within (pos 0) (pos 2048) (numberAt f 6)
+  counted = within (pos 1) (pos mostRegisters) (numberAt f 2) && within (pos 0) (pos mostPaths) (numberAt f 6)
 
   -- "Nothing follows."
   unfoldable pub sized : Bool
@@ -66,17 +64,17 @@ module _ (f : List ℕ) where
   -- | u           | 0 to 10,000                                                    |
   unfoldable pub ranged : Bool
   ranged =
-      within (pos 1) (pos 10000000) (numberAt f 10)
-      && within (numberAt f 10) (pos 10000000) (numberAt f 14)
-      && within (pos 0) (pos 10000) (numberAt f 18)
+      within (pos 1) (pos mostPeriod) (numberAt f 10)
+      && within (numberAt f 10) (pos mostPeriod) (numberAt f 14)
+      && within (pos 0) (pos mostUncertainty) (numberAt f 18)
 
   -- | setup, hold | -100,000 to 100,000                                            |
   -- | low, high   | -1,000,000 to 1,000,000, low <= high; both 0 for register 0    |
   unfoldable pub registerOk : ℕ → Bool
   registerOk i =
       marked f (registerPlace i) 82 71
-      && within (negsuc 99999) (pos 100000) (numberAt f (registerPlace i + 2))
-      && within (negsuc 99999) (pos 100000) (numberAt f (registerPlace i + 6))
+      && within leastSetup mostSetup (numberAt f (registerPlace i + 2))
+      && within leastSetup mostSetup (numberAt f (registerPlace i + 6))
       && windowed i (numberAt f (registerPlace i + 10)) (numberAt f (registerPlace i + 14))
 
   -- | from, to    | 0 to n - 1                                                     |
@@ -87,7 +85,7 @@ module _ (f : List ℕ) where
       && within (pos 0) (pos registers -ℤ pos 1) (numberAt f (pathPlace p + 2))
       && within (pos 0) (pos registers -ℤ pos 1) (numberAt f (pathPlace p + 6))
       && leZ (pos 0) (numberAt f (pathPlace p + 10))
-      && within (numberAt f (pathPlace p + 10)) (pos 1000000) (numberAt f (pathPlace p + 14))
+      && within (numberAt f (pathPlace p + 10)) mostDelay (numberAt f (pathPlace p + 14))
 
   -- the network that the file means; every path is charged the header's u
   unfoldable pub networkOf : Network

@@ -1,5 +1,7 @@
 -- The paper as definitions, one file a topic, in the paper's order.
 pub mod Network
+pub mod Limits
+pub mod Legal
 pub mod Rules
 pub mod Chains
 pub mod Schedule

@@ -6,9 +6,10 @@ use lib.IntN.{ℤ}
 pub record Network : Type 0 where
   pub registers : ℕ
   pub paths : ℕ
+  -- the least and the greatest period that may be answered
   pub floor : ℕ
   pub ceiling : ℕ
-  -- of a register
+  -- of a register: its setup and hold time, and its window, the earliest and the latest latency it may have
   pub setup : ℕ → ℤ
   pub hold : ℕ → ℤ
   pub low : ℕ → ℤ

@@ -1,4 +1,4 @@
--- "One number and one place": the paper's number and place of each case of what a function returns. Whoever adds a case of a refusal says
+-- One number and one place: the paper's number and place of each case of what a function returns. Whoever adds a case of a refusal says
 -- its number and place here, and nowhere else.
 use Prim.Native.Nat.{ℕ}
 use Rattle.paper.specs.declared.Fault.{Fault}
@@ -36,7 +36,7 @@ abbrev pub verdictPlace : Verdict → ℕ
 verdictPlace verdict.Accepted = 0
 verdictPlace (verdict.Faulty x) = faultPlace x
 
--- the refusals that come before 7
+-- what is wrong with what a call was given: a file's fault, or number 10
 abbrev pub refusalNumber : Refusal → ℕ
 refusalNumber (refusal.File x) = faultNumber x
 refusalNumber refusal.Question = 10

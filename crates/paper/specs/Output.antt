@@ -1,7 +1,7 @@
 -- The answer's bytes.
 --
 -- "`SK` period, number of latencies, number of loop entries (14 bytes); then for each register `LT` latency (6 bytes); then for each loop
--- entry `ED` kind, number (10 bytes). Bytes past the last one written keep their values."
+-- entry `ED` kind, number (10 bytes). .. Bytes past the last one written keep their values."
 use mathlib.Core.Path.{_≡_}
 use mathlib.Core.List.{List, [], _∷_, _++_}
 use Prim.Native.Nat.{ℕ, zero, suc}

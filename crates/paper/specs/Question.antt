@@ -9,7 +9,7 @@ use mathlib.Core.Path.{_≡_}
 use mathlib.Core.List.{List, [], _∷_, _++_}
 use mathlib.Core.Bool.{true}
 use Prim.Native.Nat.{ℕ}
-use lib.IntN.{ℤ, pos, negsuc}
+use lib.IntN.{ℤ, pos}
 use Rattle.paper.specs.declared.Reply.{Reply}
 use Rattle.paper.specs.declared.Reply.the-variants as reply
 use Rattle.paper.specs.Network.{Network}
@@ -18,6 +18,7 @@ use Rattle.paper.specs.File.{natural, within, networkOf}
 use Rattle.paper.specs.Table.{Row, When, Given}
 use Rattle.paper.specs.Refusals.{faults}
 use Rattle.paper.specs.Numbers.{replyNumber, replyPlace}
+use Rattle.paper.specs.Limits.{mostPeriod, leastLatency, mostLatency}
 
 -- a question: the period, the rule's kind and number, the latencies at the arrow's tail and head
 pub record Question : Type 0 where
@@ -35,9 +36,9 @@ module _ (N : Network) (q : Question) where
     pub exists : Exists N r
 
   pub record InRange : Type 0 where
-    pub period-within : within (pos 1) (pos 10000000) (q .period) ≡ true
-    pub tail-within : within (negsuc 999999) (pos 1000000) (q .tail-latency) ≡ true
-    pub head-within : within (negsuc 999999) (pos 1000000) (q .head-latency) ≡ true
+    pub period-within : within (pos 1) (pos mostPeriod) (q .period) ≡ true
+    pub tail-within : within leastLatency mostLatency (q .tail-latency) ≡ true
+    pub head-within : within leastLatency mostLatency (q .head-latency) ≡ true
     pub rule : (r : Rule) × Asked r
 
   abbrev pub MetAsked : Rule → Type 0

@@ -7,6 +7,7 @@ use Rattle.paper.specs.Network.{Network}
 use Rattle.paper.specs.Schedule.{Schedule}
 use Rattle.paper.specs.File.{headed, counted, sized, ranged, registers, paths, registerOk, pathOk, networkOf}
 use Rattle.paper.specs.Table.{Row, Fails, Lowest, When, Clear}
+use Rattle.paper.specs.Limits.{roomFor}
 
 -- some latencies are a schedule at P
 abbrev pub Scheduled : Network → ℕ → Type 0
@@ -27,15 +28,22 @@ pub record NoneToCeiling (N : Network) : Type 0 where
 -- | 4 | floor, ceiling or u out of range             | 0                       |
 -- | 5 | a register record has a wrong mark or field  | lowest such register    |
 -- | 6 | a path record has a wrong mark or field      | lowest such path        |
+--
+-- the last two rows, which read the records
+abbrev pub recordFaults : List ℕ → List Row
+recordFaults f =
+    record { number = 5; applies = Lowest (registerOk f) (registers f) }
+    ∷ record { number = 6; applies = Lowest (pathOk f) (paths f) }
+    ∷ []
+
+-- and all six
 abbrev pub faults : List ℕ → List Row
 faults f =
     record { number = 1; applies = Fails (headed f) }
     ∷ record { number = 2; applies = Fails (counted f) }
     ∷ record { number = 3; applies = Fails (sized f) }
     ∷ record { number = 4; applies = Fails (ranged f) }
-    ∷ record { number = 5; applies = Lowest (registerOk f) (registers f) }
-    ∷ record { number = 6; applies = Lowest (pathOk f) (paths f) }
-    ∷ []
+    ∷ recordFaults f
 
 -- "A file, or its network, is accepted when no refusal that comes before 7 applies."
 abbrev pub Accepted : List ℕ → Type 0
@@ -46,7 +54,7 @@ Accepted f = Clear (faults f)
 -- | 9 | a schedule at some period, none up to the ceiling | 0 |
 abbrev pub scheduleRows : Network → ℕ → List Row
 scheduleRows N room =
-    record { number = 7; applies = Fails (leb (14 + 16 * N .registers) room) }
+    record { number = 7; applies = Fails (leb (roomFor (N .registers)) room) }
     ∷ record { number = 8; applies = When (NoPeriod N) }
     ∷ record { number = 9; applies = When (NoneToCeiling N) }
     ∷ []

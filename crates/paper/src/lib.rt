@@ -1,5 +1,6 @@
 // The public types that the paper's definitions speak of, and their numbers (codes). The definitions are in specs/.
 pub mod codes;
+pub mod limits;
 
 ghost use mathlib.Core.Path.{_≡_};
 ghost use lib.IntN.{_+ℤ_, _-ℤ_};
@@ -72,13 +73,13 @@ pub enum Verdict {
     Faulty(Fault),
 }
 
-// A refusal that comes before number 7, whichever call gives it: one list for the whole module, of which each function gives a part.
+// What is wrong with what a call was given: a file's fault, or number 10. One list for the whole module, of which each function gives a part.
 pub enum Refusal {
     File(Fault),
     Question,
 }
 
-// What the scheduler returns: number 0, a refusal that comes before 7, or numbers 7 to 9.
+// What the scheduler returns: number 0, a refusal of what it was given, or numbers 7 to 9.
 pub enum Outcome {
     Answered,
     Refused(Refusal),
@@ -87,7 +88,7 @@ pub enum Outcome {
     NoneToCeiling,
 }
 
-// What the rule question returns: yes and no, both with number 0, or a refusal.
+// What the rule question returns: yes and no, both with number 0, or a refusal of what it was given.
 pub enum Reply {
     Yes,
     No,

@@ -1,9 +1,9 @@
-// Where the rules stand in memory, of n registers and m paths: each place has its function here, and no other crate works one out. Their
-// definitions are those of loops/specs/Layout.antt.
+// Where the rules stand in memory, of n registers and m paths: each place has its function here, and no other crate works one out, but
+// that `arrows::at_period` counts on from `fixed`. Their definitions are those of loops/specs/Layout.antt.
 ghost use mathlib.Core.Path.{_≡_};
-ghost use Prim.Native.Nat.{_≤_, _<_};
+ghost use Prim.Native.Nat.{_<_};
 ghost use Rattle.loops.specs.Layout.{lowPlace, highPlace, holdPlace, setupPlace, fixedPlaces, allPlaces};
-ghost use Rattle.places.specs.Few.{Few};
+ghost use Rattle.places.specs.Few.{Few, HasWindow};
 
 // The low rule of register i, which is not the host.
 pub fn low(i: usize) -> usize
@@ -13,9 +13,9 @@ pub fn low(i: usize) -> usize
     i - 1
 }
 
-// Its high rule.
+// The high rule of register i.
 pub fn high(n: usize, i: usize) -> usize
-    requires { ⌜ (0 < i) × (i < n) × (n ≤ 65536) ⌝ }
+    requires { ⌜ HasWindow n i ⌝ }
     ensures { λ r. ⌜ r ≡ highPlace n i ⌝ }
 {
     (n - 1) + (i - 1)
@@ -29,12 +29,12 @@ pub fn hold(n: usize, m: usize, p: usize) -> usize
     2 * (n - 1) + p
 }
 
-// Its setup rule.
+// The setup rule of path p.
 pub fn setup(n: usize, m: usize, p: usize) -> usize
     requires { ⌜ (Few n m) × (p < m) ⌝ }
     ensures { λ r. ⌜ r ≡ setupPlace n m p ⌝ }
 {
-    2 * (n - 1) + m + p
+    fixed(n, m) + p
 }
 
 // How many rules do not know the period: they stand before all that do.

@@ -14,9 +14,11 @@ pub record Copied {A : Type 0} (d : A) (a b : List A) (i : ℕ) : Type 0 where
   pub same : (k : ℕ) → k < i → getD b k d ≡ getD a k d
 
 module _ {A : Type 0} (d : A) (a : List A) where
+  -- nothing is copied yet
   pub copied-none : (b : List A) → length b ≡ length a → Copied d a b 0
   copied-none b e = record { long = e; so-far = omega arith; same = λ k h. absurd (omega arith) }
 
+  -- one element more
   pub copied-more : (b : List A) (i : ℕ) → i < length a → Copied d a b i → Copied d a (set b i (getD a i d)) (i + 1)
   copied-more b i h c = record { long = length-set b i _ ∙ c .long; so-far = omega arith; same = λ k l. pick k l (ℕ-discrete k i) }
     where
@@ -24,5 +26,6 @@ module _ {A : Type 0} (d : A) (a : List A) where
       pick k l (yes e) = rw e (getD-set-same b i (getD a i d) d (let g = c .long in omega arith))
       pick k l (no e) = getD-set-other b i k _ d e ∙ c .same k (omega arith)
 
+  -- all are copied
   pub copied-all : (b : List A) (i : ℕ) → length a ≤ i → Copied d a b i → b ≡ a
   copied-all b i h c = ext-getD d b a (c .long) (λ k l. c .same k (let g = c .long in let f = c .so-far in omega arith))

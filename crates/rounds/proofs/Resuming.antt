@@ -1,4 +1,5 @@
--- For callers: where a relaxation may begin. The first row, the row that a relaxation of the first arrows left, and any ready row.
+-- For callers: where a relaxation may begin. The first row, the row that a relaxation of the first arrows left, and any ready row. Rests on
+-- `First` and `Begun` of `loops`.
 use mathlib.Core.Path.{_≡_, sym, _∙_}
 use mathlib.Core.List.{List}
 use Prim.Native.Nat.{ℕ, zero, suc, _≤_, _<_}
@@ -7,7 +8,7 @@ use lib.IntN.{ℤ, negsuc}
 use lib.Signed.{_≤ℤ_}
 use Rattle.whole.proofs.Lin.{lin}
 use Rattle.loops.specs.Arrows.{Arrows, Lows}
-use Rattle.loops.specs.Begun.{Begins}
+use Rattle.loops.specs.Begun.{Extends}
 use Rattle.loops.specs.Model.{at, firstRow, firstPreds}
 use Rattle.loops.specs.Shape.{Shape}
 use Rattle.loops.proofs.Begun.{tight-begun, met-begun}
@@ -15,8 +16,8 @@ use Rattle.loops.proofs.First.{first-tight, first-row-host, first-row-low, firs
 use Rattle.rounds.specs.Relaxation.{Ready, Resumes, Rests}
 
 -- of a ready row nothing need be met
-pub resumes-first : (Γ : Arrows) (a : List ℤ) (p : List ℕ) → Ready Γ a p → Resumes Γ a p 0
-resumes-first Γ a p r = record { ready = r; within = omega arith; met = λ e h. absurd (omega arith) }
+pub resumes-first : (Γ : Arrows) (a : List ℤ) (preds : List ℕ) → Ready Γ a preds → Resumes Γ a preds 0
+resumes-first Γ a preds r = record { ready = r; within = omega arith; met = λ e h. absurd (omega arith) }
 
 -- the first row, with the low arrows for preds
 pub first-ready : (Γ : Arrows) (low : ℕ → ℕ) → Shape Γ → Lows Γ low → Ready Γ (firstRow Γ low) (firstPreds Γ low 65535)
@@ -34,17 +35,17 @@ first-ready Γ low shape lows =
         let m = shape .modest (low (suc v)) (lows .exists (suc v) (omega arith) b) .from in
         omega lin
 
-module _ (Γ Δ : Arrows) (begins : Begins Γ Δ) (shape : Shape Γ) (row : List ℤ) (p : List ℕ) where
+module _ (Γ Δ : Arrows) (begins : Extends Γ Δ) (shape : Shape Γ) (row : List ℤ) (preds : List ℕ) where
   -- a row that is ready for the first arrows is ready for all: the host's pred names none of them
-  pub ready-begun : Ready Δ row p → Ready Γ row p
+  pub ready-begun : Ready Δ row preds → Ready Γ row preds
   ready-begun r =
       record {
-        tight = tight-begun Γ Δ begins row p (shape .sound) (r .tight) (let n = shape .named in let e = r .root in omega arith);
+        tight = tight-begun Γ Δ begins row preds (shape .sound) (r .tight) (let n = shape .named in let e = r .root in omega arith);
         from = λ v b. r .from v (let n = begins .registers in omega arith);
         root = r .root;
       }
 
   -- and the least schedule of the first arrows meets them
-  pub resumes-begun : Rests Δ row → Ready Δ row p → Resumes Γ row p (Δ .count)
+  pub resumes-begun : Rests Δ row → Ready Δ row preds → Resumes Γ row preds (Δ .count)
   resumes-begun rests r =
       record { ready = ready-begun r; within = begins .fewer; met = met-begun Γ Δ begins (at row) (rests .least .schedule) }

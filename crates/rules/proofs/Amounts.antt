@@ -1,4 +1,5 @@
--- The amounts of an accepted network's rules, without a period and at one: in which range they lie.
+-- The amounts of an accepted network's rules, without a period and at one: in which range they lie. Rests on `Legal` of
+-- `paper`.
 use Prim.Native.Nat.{ℕ, _≤_}
 use lib.IntN.{ℤ, pos, negsuc, _+ℤ_, _-ℤ_}
 use Rattle.whole.proofs.Lin.{lin, plus, negs}
@@ -16,7 +17,7 @@ less-modest z P b q = let x = negs (pos P) in record { from = omega lin; to = om
 
 module _ {N : Network} (legal : Legal N) where
   -- a rule without the period
-  pub base-between : (r : Rule) → Exists N r → Between (negsuc 1099999) (pos 1110000) (base N r)
+  base-between : (r : Rule) → Exists N r → Between (negsuc 1099999) (pos 1110000) (base N r)
   base-between (Setup p) h =
       let s = legal .setup (N .to p) (legal .to p h) in
       let u = legal .uncertainty p h in
@@ -51,5 +52,6 @@ module _ {N : Network} (legal : Legal N) where
   pub base-small : (r : Rule) → Exists N r → Small (base N r)
   base-small r h = small-between (omega lin) (omega lin) (base-between r h)
 
+  -- at a period too
   pub amount-small : (P : ℕ) (r : Rule) → P ≤ 10000000 → Exists N r → Small (amount N P r)
   amount-small P r q h = small-between (omega lin) (omega lin) (amount-modest P r q h)

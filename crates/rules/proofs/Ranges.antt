@@ -1,4 +1,4 @@
--- What is read from an accepted file is small.
+-- What is read from an accepted file is small. Rests on the ranges of `network`.
 use Prim.Native.Nat.{ℕ}
 use native.Mathlib.Omega.{arith}
 use lib.IntN.{ℤ, pos, negsuc, _-ℤ_}
@@ -21,7 +21,7 @@ small-between l m h = record { from = omega lin; to = omega lin }
 pub small-less : {a b : ℤ} → Small a → Small b → SFits w32 (a -ℤ b)
 small-less a b = difference-fits (omega arith) (small a) (small b)
 
-pub small-path : {n : ℕ} {road : Path} → PathRanges n road → SmallPath road
+small-path : {n : ℕ} {road : Path} → PathRanges n road → SmallPath road
 small-path p =
     let a = p .dmin in
     let b = p .dmax in
@@ -32,6 +32,7 @@ small-path p =
       uncertainty = record { from = omega lin; to = omega lin };
     }
 
+-- a register that was read is small
 pub small-register : {r : Register} → RegisterRanges r → SmallRegister r
 small-register p =
     let a = p .setup in
@@ -45,5 +46,6 @@ small-register p =
       high = record { from = omega lin; to = omega lin };
     }
 
+-- so are a path and the register that it leads to
 pub small-ends : {n : ℕ} {road : Path} {receiver : Register} → PathRanges n road → RegisterRanges receiver → SmallEnds road receiver
 small-ends p r = record { path = small-path p; register = small-register r }

@@ -3,7 +3,7 @@
 use mathlib.Core.Path.{_≡_}
 use Prim.Native.Nat.{ℕ}
 use lib.IntN.{ℤ, pos, negsuc}
-use lib.Signed.{_≤ℤ_}
+use Rattle.whole.specs.Between.{Between, far, farBelow}
 use Rattle.network.specs.declared.Register.{Register}
 use Rattle.network.specs.declared.Path.{Path}
 use Rattle.network.specs.Records.{IsRegister, IsPath}
@@ -11,15 +11,15 @@ use Rattle.paper.specs.Network.{Network}
 use Rattle.paper.specs.Rules.{Rule, base}
 
 -- Nothing that a rule is made of lies further from 0 than 2 ^ 24, so sums of a few such numbers fit 32 bits.
-pub record Small (z : ℤ) : Type 0 where
-  pub from : negsuc 16777215 ≤ℤ z
-  pub to : z ≤ℤ pos 16777216
+abbrev pub Small : ℤ → Type 0
+Small = Between farBelow (pos far)
 
 pub record SmallPath (road : Path) : Type 0 where
   pub dmin : Small (road .dmin .0)
   pub dmax : Small (road .dmax .0)
   pub uncertainty : Small (road .uncertainty .0)
 
+-- every time of a register
 pub record SmallRegister (r : Register) : Type 0 where
   pub setup : Small (r .setup .0)
   pub hold : Small (r .hold .0)

@@ -87,6 +87,7 @@ module _ (t : List Row) {N : Network} {before after : List ℕ} {o : Outcome} (r
       from h (inl b) = let x = refuses (outcomeNumber o) (outcomePlace o) b in absurd (h (x .0) (outcome-known o (outcome.Refused (x .0)) (x .1) (x .2)))
       from h (inr c) = c .0
 
+  -- in particular where the outcome is no refusal that comes before 7
   pub clear-beyond : Refuses t → refusalIn o ≡ none → Clear t
   clear-beyond refuses e =
       clear-iff refuses .1 (λ x d. let f = ap refusalIn d in let z : _≡_ {A = ℕ} 0 1 = cc in omega arith)

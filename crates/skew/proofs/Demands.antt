@@ -27,7 +27,7 @@ use Rattle.paper.proofs.LoopLaws.{contradicts-below-need, contradicts-always, n
 use Rattle.loops.specs.Needs.{GreatestNeed}
 use Rattle.loops.proofs.NeedLaws.{need-is}
 use Rattle.loops.proofs.Rules.{schedule-bars-loop}
-use Rattle.skew.specs.Shows.{ProvesLeast, ProvesNone, ProvesNoneToCeiling, LoopProves}
+use Rattle.skew.specs.Proves.{ProvesLeast, ProvesNone, ProvesNoneToCeiling, LoopProves}
 use Rattle.skew.proofs.Numbers.{accepted-beyond}
 use Rattle.skew.proofs.Calls as calls
 -- For every accepted network and every whole period from 1 up, a schedule exists exactly when no loop of rules, passing each register at

@@ -28,38 +28,40 @@ use Rattle.skew.specs.Asks.{questionOf, LatenciesInRange, SaysYes, FileS
 use Rattle.skew.proofs.Numbers.{accepted-beyond}
 use Rattle.skew.proofs.Demands.{returned-answer}
 use Rattle.skew.proofs.Replies.{yes-reply, no-reply}
+use Rattle.whole.specs.Between.{Between}
+use Rattle.paper.specs.Limits.{mostPeriod, leastLatency, mostLatency}
 
 -- a number between two others passes the test
-within-from : (low high z : ℤ) → (low ≤ℤ z) × (z ≤ℤ high) → within low high z ≡ true
+within-from : (low high z : ℤ) → Between low high z → within low high z ≡ true
 unfolding within
 within-from low high z b =
-    let f = b .0 in
-    let t = b .1 in
+    let f = b .from in
+    let t = b .to in
     let p : leZ low z ≡ true = omega lin in
     let q : leZ z high ≡ true = omega lin in
     ap₂ (λ a c. a && c) p q
 
 -- "low, high: -1,000,000 to 1,000,000": a schedule's latencies lie in their windows, and the host's is 0
 pub schedule-within : (N : Network) → Legal N → (P : ℕ) (x : ℕ → ℤ) → Schedule N P x → LatenciesInRange N x
-schedule-within N l P x s zero h = let z = s .host in (omega lin, omega lin)
+schedule-within N l P x s zero h = let z = s .host in record { from = omega lin; to = omega lin }
 schedule-within N l P x s (suc i) h =
     let up = s .meets (Low (suc i)) (omega arith, h) in
     let down = s .meets (High (suc i)) (omega arith, h) in
     let low = l .low (suc i) h .from in
     let high = l .high (suc i) h .to in
-    (omega lin, omega lin)
+    record { from = omega lin; to = omega lin }
 
 -- a question about rule r, at a period and with latencies, in range where these are
-module _ (N : Network) (l : Legal N) (P : ℕ) (from : 1 ≤ P) (to : P ≤ 10000000) (x : ℕ → ℤ) (w : LatenciesInRange N x) (r : Rule) (e : Exists N r) where
+module _ (N : Network) (l : Legal N) (P : ℕ) (from : 1 ≤ P) (to : P ≤ mostPeriod) (x : ℕ → ℤ) (w : LatenciesInRange N x) (r : Rule) (e : Exists N r) where
   asked : Asked N (questionOf N P x r) r
   asked = record { of-kind = refl; of-number = refl; exists = e }
 
   in-range : InRange N (questionOf N P x r)
   in-range =
       record {
-        period-within = within-from (pos 1) (pos 10000000) (pos P) (omega lin, omega lin);
-        tail-within = within-from (negsuc 999999) (pos 1000000) _ (w (tail N r) (tail-below N (legal-joined N l) r e));
-        head-within = within-from (negsuc 999999) (pos 1000000) _ (w (head N r) (head-below N (legal-joined N l) r e));
+        period-within = within-from (pos 1) (pos mostPeriod) (pos P) (record { from = omega lin; to = omega lin });
+        tail-within = within-from leastLatency mostLatency _ (w (tail N r) (tail-below N (legal-joined N l) r e));
+        head-within = within-from leastLatency mostLatency _ (w (head N r) (head-below N (legal-joined N l) r e));
         rule = (r, asked);
       }
 
@@ -96,7 +98,7 @@ module _ (N : Network) (t : List Row) (clear : Clear t) (places : OnePlaces t) (
 -- "Yes is given exactly when the named rule's inequality holds.": latencies in range, with 0 for the host, are a schedule exactly when the
 -- rule question says yes to every rule.
 pub schedule-iff-says : (N : Network) → Legal N → (t : List Row) → Clear t → OnePlaces t
-    → (P : ℕ) → 1 ≤ P → P ≤ 10000000 → (x : ℕ → ℤ) → x 0 ≡ pos 0 → LatenciesInRange N x
+    → (P : ℕ) → 1 ≤ P → P ≤ mostPeriod → (x : ℕ → ℤ) → x 0 ≡ pos 0 → LatenciesInRange N x
     → Schedule N P x ↔ ((r : Rule) → Exists N r → SaysYes N (t ++ questionRows N (questionOf N P x r)) (questionOf N P x r))
 schedule-iff-says N l t clear places P from to x host w = (
   (λ s r e. met-yes N t clear places (questionOf N P x r) (in-range N l P from to x w r e) r (asked N l P from to x w r e) (met-is-rule N P x r .1 (s .meets r e))),
@@ -108,7 +110,8 @@ schedule-iff-says N l t clear places P from to x host w = (
       }),
 )
 
-pub schedule-iff-yes : (f : List ℕ) → Accepted f → (P : ℕ) → 1 ≤ P → P ≤ 10000000 → (x : ℕ → ℤ) → x 0 ≡ pos 0 → LatenciesInRange (networkOf f) x
+-- the same of an accepted file's question
+pub schedule-iff-yes : (f : List ℕ) → Accepted f → (P : ℕ) → 1 ≤ P → P ≤ mostPeriod → (x : ℕ → ℤ) → x 0 ≡ pos 0 → LatenciesInRange (networkOf f) x
     → Schedule (networkOf f) P x ↔ ((r : Rule) → Exists (networkOf f) r → FileSaysYes f (questionOf (networkOf f) P x r))
 schedule-iff-yes f a = schedule-iff-says (networkOf f) (accepted-legal f a) (faults f) a (faults-one-place f)
 

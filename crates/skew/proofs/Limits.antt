@@ -1,4 +1,5 @@
--- The numbers of a question: read back by the code as themselves, tested against their ranges, and small enough for the rule's sums.
+-- The numbers of a question: read back by the code as themselves, tested against their ranges, and small enough for the rule's sums. Rests on
+-- `Ranges` and `Amounts` of `rules`.
 use mathlib.Core.Path.{_≡_, sym}
 use mathlib.Core.Bool.{Bool, true, _&&_}
 use mathlib.Core.List.{List}
@@ -17,13 +18,15 @@ use Rattle.rules.specs.Amounts.{Small, SmallArrow}
 use Rattle.rules.proofs.Ranges.{small-between, small-less}
 use Rattle.rules.proofs.Amounts.{base-small, amount-small}
 use Rattle.skew.specs.Asked.{asked}
-use Rattle.skew.specs.Slack.{numbersWithin, Ready}
+use Rattle.skew.specs.Slack.{numbersWithin, Askable}
 
 -- ---- read back
 
+-- a number as the code reads it back from a machine word
 abbrev pub read : ℤ → ℤ
 read z = toZ w32 (ofZ w32 z)
 
+-- a question that fits its words is read back as it is
 pub asked-read : {period kind number tail head : ℤ}
     → SFits w32 period
     → SFits w32 kind
@@ -35,6 +38,7 @@ asked-read p k n t h = rw (toZ-ofZ p, toZ-ofZ k, toZ-ofZ n, toZ-ofZ t, toZ-ofZ h
 
 -- ---- tested
 
+-- the three tests that the code joins are the ranges of the numbers
 pub numbers-joined : {period tail head : ℤ} {p t h r : Bool}
     → SFits w32 period
     → SFits w32 tail
@@ -47,11 +51,13 @@ pub numbers-joined : {period tail head : ℤ} {p t h r : Bool}
 unfolding numbersWithin
 numbers-joined fp ft fh p t h r = rw (p, t, h, toZ-ofZ fp, toZ-ofZ ft, toZ-ofZ fh) at r
 
+-- each of the three numbers lies in its range
 pub record Numbers (period tail head : ℤ) : Type 0 where
   pub period-within : within (pos 1) (pos 10000000) period ≡ true
   pub tail-within : within (negsuc 999999) (pos 1000000) tail ≡ true
   pub head-within : within (negsuc 999999) (pos 1000000) head ≡ true
 
+-- a passed test says so of each number
 pub numbers-in : {period tail head : ℤ} → numbersWithin period tail head ≡ true → Numbers period tail head
 unfolding numbersWithin
 numbers-in e =
@@ -59,6 +65,7 @@ numbers-in e =
     let b = both _ _ (a .0) in
     record { period-within = b .0; tail-within = b .1; head-within = a .1 }
 
+-- and back
 pub in-numbers : {period tail head : ℤ} → Numbers period tail head → numbersWithin period tail head ≡ true
 unfolding numbersWithin
 in-numbers n = rw (n .period-within, n .tail-within, n .head-within)
@@ -79,7 +86,7 @@ small-latency : {z : ℤ} → within (negsuc 999999) (pos 1000000) z ≡ true �
 small-latency e = small-between (omega lin) (omega lin) (within-is _ _ _ e)
 
 -- its amount, and the latencies that it reads, are small
-module _ {f : List ℕ} {n : ℕ} {q : Question} (p : Ready f n q) where
+module _ {f : List ℕ} {n : ℕ} {q : Question} (p : Askable f n q) where
   legal : Legal (networkOf f)
   legal = accepted-legal f (p .accepted)
 
@@ -95,6 +102,7 @@ module _ {f : List ℕ} {n : ℕ} {q : Question} (p : Ready f n q) where
   head-small (Low i) = small-latency (p .in-range .head-within)
   head-small (High i) = record { from = omega lin; to = omega lin }
 
+  -- the rule's amount and the latencies at its arrow's ends are small enough for the slack
   pub small-arrow : (r : Rule) {d : ℤ} → Asked (networkOf f) q r → d ≡ amount (networkOf f) (natural (q .period)) r
       → SmallArrow d (tailRead r (q .tail-latency)) (headRead r (q .head-latency))
   small-arrow r a e =

@@ -1,4 +1,5 @@
--- The rule that a kind and a number name, which is one rule (`rule-named` of the paper): code that tests the two finds it.
+-- The rule that a kind and a number name, which is one rule (`rule-named` of the paper): code that tests the two finds it. Rests on
+-- `rule-named`.
 use mathlib.Core.Path.{_≡_, refl, sym, ap, _∙_}
 use mathlib.Core.Bool.{Bool, true, false}
 use mathlib.Core.List.{List}
@@ -18,7 +19,7 @@ use Rattle.paper.specs.File.{natural, networkOf}
 use Rattle.paper.specs.Question.{Question, Asked}
 use Rattle.paper.proofs.RuleLaws.{tailRead, headRead, slack-is}
 use Rattle.paper.proofs.NumberLaws.{rule-named, asked-one}
-use Rattle.skew.specs.Slack.{Tells, TellsRule, Ready, IsSlack}
+use Rattle.skew.specs.Slack.{Tells, TellsRule, Askable, IsSlack}
 
 -- ---- a test that tells whether it exists
 
@@ -60,19 +61,22 @@ tells N q r false k n e = λ x. e (rw (same x) at (x .1 .exists))
 pub matched : {z : ℤ} {k : ℕ} → SFits w32 z → ofZ w32 z ≡ k → z ≡ toZ w32 k
 matched f e = sym (toZ-ofZ f) ∙ ap (toZ w32) e
 
+-- a number that is cast keeps its magnitude
 pub cast-is : {z : ℤ} → SFits w32 z → natAbs (toZ w32 (ofZ w32 z)) ≡ natAbs z
 cast-is f = ap natAbs (toZ-ofZ f)
 
+-- a number from 0 up is its magnitude
 pub abs-is : (z : ℤ) → pos 0 ≤ℤ z → z ≡ pos (natAbs z)
 abs-is (pos n) h = refl
 abs-is (negsuc n) h = absurd (h .le)
 
 -- z is the kind and y the number that are asked for
 module _ {n m : ℕ} {z y : ℤ} where
-  -- a number below 0 names no rule, nor does a kind that is none of the four
+  -- a number below 0 names no rule
   pub tells-below : y <ℤ pos 0 → TellsRule n m z y false
   tells-below h = λ N en em period tail head x. let e = x .1 .of-number in omega lin
 
+  -- nor does a kind that is none of the four
   pub tells-none : (ofZ w32 z ≡ 0 → ⊥) → (ofZ w32 z ≡ 1 → ⊥) → (ofZ w32 z ≡ 2 → ⊥) → (ofZ w32 z ≡ 3 → ⊥) → TellsRule n m z y false
   tells-none a b c d = λ N en em period tail head x. none (x .0) (x .1 .of-kind)
     where
@@ -83,29 +87,34 @@ module _ {n m : ℕ} {z y : ℤ} where
       none (High i) e = d (ap (ofZ w32) e)
 
   module _ {k : ℕ} (e : y ≡ pos k) where
-    -- a path's rule exists where its number is below the count of paths
+    -- a path's setup rule exists where its number is below the count of paths
     pub tells-setup : z ≡ pos 0 → TellsRule n m z y (ltb k m)
     tells-setup h = λ N en em period tail head. tells N _ (Setup k) (ltb k m) h e (below-tells k m em)
 
+    -- so does its hold rule
     pub tells-hold : z ≡ pos 1 → TellsRule n m z y (ltb k m)
     tells-hold h = λ N en em period tail head. tells N _ (Hold k) (ltb k m) h e (below-tells k m em)
 
-    -- a register's where its number is below the count of registers, and not the host's
+    -- a register's low rule exists where its number is below the count of registers, and it is not the host's
     pub tells-low : z ≡ pos 2 → 0 < k → TellsRule n m z y (ltb k n)
     tells-low h l = λ N en em period tail head. tells N _ (Low k) (ltb k n) h e (from-tells k n en l)
 
+    -- so does its high rule
     pub tells-high : z ≡ pos 3 → 0 < k → TellsRule n m z y (ltb k n)
     tells-high h l = λ N en em period tail head. tells N _ (High k) (ltb k n) h e (from-tells k n en l)
 
+    -- the host has no low rule
     pub host-low : z ≡ pos 2 → (0 < k → ⊥) → TellsRule n m z y (ltb 0 k)
     host-low h l = λ N en em period tail head. tells N _ (Low k) (ltb 0 k) h e (host-tells k (N .registers) l)
 
+    -- and no high rule
     pub host-high : z ≡ pos 3 → (0 < k → ⊥) → TellsRule n m z y (ltb 0 k)
     host-high h l = λ N en em period tail head. tells N _ (High k) (ltb 0 k) h e (host-tells k (N .registers) l)
 
 -- ---- a question that is not refused names a rule
 
-module _ {f : List ℕ} {n : ℕ} {q : Question} (p : Ready f n q) where
+module _ {f : List ℕ} {n : ℕ} {q : Question} (p : Askable f n q) where
+  -- the number of a rule that exists is not below 0
   pub number-from : pos 0 ≤ℤ q .number-asked
   number-from = let e = p .in-range .rule .1 .of-number in omega lin
 

@@ -52,6 +52,7 @@ module _ (f : List ℕ) {before after : List ℕ} {o : Outcome} (r : FileResult 
           let y = fault-of-row f _ _ (given-row (faults f) (refusalNumber x) (refusalPlace x) (refusal-above x) g) in
           h (y .0) (e ∙ ap outcome.Refused (refusal-known x (refusal.File (y .0)) (y .1) (y .2)))
 
+  -- in particular where the outcome is no refusal that comes before 7
   pub accepted-beyond : refusalIn o ≡ none → Accepted f
   accepted-beyond e = calls.clear-beyond (faults f) r (faults-refuse f) e
 

@@ -31,6 +31,8 @@ use Rattle.loops.proofs.Places.{tail-below, legal-joined}
 use Rattle.skew.proofs.Numbers.{accepted-beyond}
 use Rattle.skew.proofs.Joined.{schedule-within}
 use Rattle.skew.specs.Reads.{Reads, ReadsBack}
+use Rattle.whole.specs.Between.{Between}
+use Rattle.paper.specs.Limits.{mostRegisters, mostPaths, mostPeriod, leastLatency, mostLatency}
 
 -- a number is read past what stands before it
 number-past : (a s : List ℕ) (k : ℕ) → numberAt (a ++ s) (length a + k) ≡ numberAt s k
@@ -86,21 +88,21 @@ module _ (h r q s t e p : List ℕ) where
   about-number = simp append-assoc
 
 -- every number fits four bytes
-pub record Small (P n : ℕ) (x : ℕ → ℤ) (l : List Rule) : Type 0 where
-  pub period : P ≤ 10000000
-  pub count : n ≤ 256
-  pub latency : (i : ℕ) → i < n → (negsuc 999999 ≤ℤ x i) × (x i ≤ℤ pos 1000000)
-  pub entries : length l ≤ 256
-  pub entry : (j : ℕ) → j < length l → (kind (getD l j (Low 0)) ≤ 3) × (number (getD l j (Low 0)) ≤ 2048)
+pub record FourByte (P n : ℕ) (x : ℕ → ℤ) (l : List Rule) : Type 0 where
+  pub period : P ≤ mostPeriod
+  pub count : n ≤ mostRegisters
+  pub latency : (i : ℕ) → i < n → Between leastLatency mostLatency (x i)
+  pub entries : length l ≤ mostRegisters
+  pub entry : (j : ℕ) → j < length l → (kind (getD l j (Low 0)) ≤ 3) × (number (getD l j (Low 0)) ≤ mostPaths)
 
-module _ (P n : ℕ) (x : ℕ → ℤ) (l : List Rule) (after past : List ℕ) (small : Small P n x l)
+module _ (P n : ℕ) (x : ℕ → ℤ) (l : List Rule) (after past : List ℕ) (small : FourByte P n x l)
     (bytes : after ≡ (skewRecord P n (length l) ++ latencyRecords x n ++ entryRecords l) ++ past) where
   reads-latency : (i : ℕ) → i < n → numberAt after (14 + 6 * i + 2) ≡ x i
   reads-latency i h =
       let t = latency-there x n i h in
       let b = small .latency i h in
-      let low = b .0 in
-      let high = b .1 in
+      let low = b .from in
+      let high = b .to in
       let here = rw (t .1) at bytes in
       number-at after (skewRecord P n (length l) ++ latencyRecords x i ++ 76 ∷ 84 ∷ []) (t .0 ++ entryRecords l ++ past) (x i) (14 + 6 * i + 2)
       (here ∙ about-latency (skewRecord P n (length l)) (latencyRecords x i) (four (x i)) [] (t .0) (entryRecords l) past)
@@ -146,7 +148,7 @@ module _ (P n : ℕ) (x : ℕ → ℤ) (l : List Rule) (after past : List ℕ) (
 no-records : (h e p after : List ℕ) → after ≡ (h ++ e) ++ p → after ≡ (h ++ [] ++ e) ++ p
 no-records h e p after b = rw (append-nil h) b
 
-reads-alone : (l : List Rule) (before after : List ℕ) → Small 0 0 (λ i. pos 0) l → LoopAlone l before after → Reads after 0 0 (λ i. pos 0) l
+reads-alone : (l : List Rule) (before after : List ℕ) → FourByte 0 0 (λ i. pos 0) l → LoopAlone l before after → Reads after 0 0 (λ i. pos 0) l
 reads-alone l before after s b =
     let past : List ℕ = drop (length (skewRecord 0 0 (length l) ++ entryRecords l)) before in
     reads 0 0 (λ i. pos 0) l after past s (no-records (skewRecord 0 0 (length l)) (entryRecords l) past after b)
@@ -169,7 +171,8 @@ module _ (N : Network) (g : Legal N) where
   loop-entries : (l : List Rule) → IsLoop N l → (j : ℕ) → j < length l → (kind (getD l j (Low 0)) ≤ 3) × (number (getD l j (Low 0)) ≤ 2048)
   loop-entries l i j h = all-at (λ r. (kind r ≤ 3) × (number r ≤ 2048)) l (all-map rule-small l (i .exist)) (Low 0) j h
 
-  pub answer-small : (P : ℕ) (x : ℕ → ℤ) (l : List Rule) → Answer N P x → Shown N P l → Small P (N .registers) x l
+  -- the numbers of an answer to a network whose fields lie in their ranges
+  pub answer-small : (P : ℕ) (x : ℕ → ℤ) (l : List Rule) → Answer N P x → Shown N P l → FourByte P (N .registers) x l
   answer-small P x [] a s =
       record {
         period = omega (arith, a .to-ceiling, g .ceiling-to);
@@ -187,7 +190,8 @@ module _ (N : Network) (g : Legal N) where
         entry = loop-entries (r ∷ l) (s .1 .is-loop);
       }
 
-  pub alone-small : (l : List Rule) → IsLoop N l → Small 0 0 (λ i. pos 0) l
+  -- the numbers of a loop alone
+  pub alone-small : (l : List Rule) → IsLoop N l → FourByte 0 0 (λ i. pos 0) l
   alone-small l i =
       record {
         period = omega arith;

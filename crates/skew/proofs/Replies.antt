@@ -1,4 +1,4 @@
--- Each reply, from what leads to it, as a row of the paper's table.
+-- Each reply, from what leads to it, as a row of the paper's table. Rests on `Limits` and on the laws of tables.
 use mathlib.Core.Path.{_≡_, refl}
 use mathlib.Core.Logic.{inl, inr}
 use mathlib.Core.List.{List, _++_}
@@ -29,6 +29,7 @@ use Rattle.skew.proofs.Limits.{numbers-in, in-numbers}
 
 -- what the two tests answered: of the numbers, and of the rule among the network's n registers and m paths
 module _ {N : Network} {n m : ℕ} {period kind number tail head : ℤ} (t : Bool) (en : n ≡ N .registers) (em : m ≡ N .paths) (tells : TellsRule n m kind number t) where
+  -- both passed: the question is in range
   pub is-in-range : numbersWithin period tail head ≡ true → t ≡ true → InRange N (asked period kind number tail head)
   is-in-range e r =
       let p = numbers-in e in
@@ -40,9 +41,11 @@ module _ {N : Network} {n m : ℕ} {period kind number tail head : ℤ} (t : Boo
         rule = a N en em period tail head;
       }
 
+  -- there is no such rule: it is not
   pub no-rule : t ≡ false → InRange N (asked period kind number tail head) → ⊥
   no-rule r i = let a : TellsRule n m kind number false = rw r at tells in a N en em period tail head (i .rule)
 
+-- a number lies outside its range: it is not
 pub no-numbers : {N : Network} {period kind number tail head : ℤ} → numbersWithin period tail head ≡ false → InRange N (asked period kind number tail head) → ⊥
 no-numbers e i =
     let p = in-numbers (record { period-within = i .period-within; tail-within = i .tail-within; head-within = i .head-within }) in
@@ -72,20 +75,24 @@ module _ (N : Network) (t : List Row) (q : Question) (clear : Clear t) where
     pub unrefused : Given (t ++ rows) 0 0
     unrefused = given-after t rows 0 0 clear (inr ((λ p x. x .0 i), (refl, refl)))
 
+    -- yes, where the rule is met
     pub yes-reply : (r : Rule) → Asked N q r → MetAsked N q r → Allowed reply.Yes
     yes-reply r k m = record { given = unrefused; says = (r, k, m) }
 
+    -- no, where it is not
     pub no-reply : (r : Rule) → Asked N q r → (MetAsked N q r → ⊥) → Allowed reply.No
     no-reply r k m = record { given = unrefused; says = (r, k, m) }
 
-    -- from the slack's sign
+    -- by the slack's sign, of which 0 is met
     module _ (z : ℤ) (s : IsSlack N q z) where
+      -- from 0 up
       pub slack-yes : leZ (pos 0) z ≡ true → Allowed reply.Yes
       slack-yes h =
           let r = i .rule in
           let m : pos 0 ≤ℤ z = omega lin in
           yes-reply (r .0) (r .1) (rw (s (r .0) (r .1)) at m)
 
+      -- below 0
       pub slack-no : leZ (pos 0) z ≡ false → Allowed reply.No
       slack-no h =
           let r = i .rule in

@@ -1,5 +1,5 @@
 -- Each way out of the scheduler satisfies the contract: a refusal that comes before 7, too little room, and the three ends of the search.
--- Of any network N and any rows t that come before 7.
+-- Of any network N and any rows t that come before 7. Rests on the laws of tables.
 use mathlib.Core.Path.{_≡_, refl}
 use mathlib.Core.Logic.{inl, inr}
 use mathlib.Core.List.{List, [], _∷_, _++_}
@@ -41,6 +41,7 @@ module _ (N : Network) (t : List Row) (clear : Clear t) (before : List ℕ) wher
   abbrev Allowed : Outcome → List ℕ → Type 0
   Allowed o after = Result N (t ++ rows) before o after
 
+  -- too little room: number 7
   pub result-room : length before < 14 + 16 * N .registers → Allowed outcome.Room before
   result-room h = record { given = given-after t rows 7 0 clear (inl (refl, (lt-leb _ _ h, refl))); output = refl }
 
@@ -49,6 +50,7 @@ module _ (N : Network) (t : List Row) (clear : Clear t) (before : List ℕ) wher
     roomy : {n p : ℕ} → Given (last-rows N) n p → Given rows n p
     roomy g = inr (passed (le-leb _ _ room), g)
 
+    -- what the search comes to: an answer, number 8 or number 9
     pub result-solved : (o : Outcome) (after : List ℕ) → Solved N before o after → Allowed o after
     result-solved outcome.Answered after s =
         let a = s .answer in

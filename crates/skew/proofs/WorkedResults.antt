@@ -18,7 +18,7 @@ use Rattle.paper.specs.Cases.{Expected, answered, refused-8, refused-9, Case, C
 use Rattle.paper.proofs.TableLaws.{refusals-one-place}
 use Rattle.paper.proofs.NumberLaws.{outcome-one}
 use Rattle.paper.proofs.WorkedCases.{worked-cases}
-use Rattle.skew.specs.Rows.{outcomeOf, loopOf, bytesOf, showing, AsRow, Promised}
+use Rattle.skew.specs.Rows.{outcomeOf, loopOf, rowBytes, showing, AsRow, Promised}
 use Rattle.paper.proofs.OutputLaws.{latencies-same}
 use Rattle.paper.proofs.LoopLaws.{all-map}
 use Rattle.skew.proofs.Unique.{answer-unique, floor-no-loop}
@@ -35,7 +35,7 @@ row-place (refused-9 loop) = refl
 
 -- what comes of a network is left in the output
 module _ (N : Network) (before : List ℕ) where
-  row-left : (e : Expected) → Comes N e → Left N (outcomeOf e) before (bytesOf e ++ drop (length (bytesOf e)) before)
+  row-left : (e : Expected) → Comes N e → Left N (outcomeOf e) before (rowBytes e ++ drop (length (rowBytes e)) before)
   row-left (answered P latencies loop) c =
       record {
         period = P;
@@ -52,7 +52,7 @@ module _ (N : Network) (before : List ℕ) where
 module _ (N : Network) (before after : List ℕ) where
   -- some loop that the paper allows stands where the row's does
   abbrev Left-as : Expected → Type 0
-  Left-as e = (loop : List Rule) × Comes N (showing loop e) × (after ≡ bytesOf (showing loop e) ++ drop (length (bytesOf (showing loop e))) before)
+  Left-as e = (loop : List Rule) × Comes N (showing loop e) × (after ≡ rowBytes (showing loop e) ++ drop (length (rowBytes (showing loop e))) before)
 
   left-row : (e : Expected) → Comes N e → Left N (outcomeOf e) before after → Left-as e
   left-row (answered P latencies loop) c l =
@@ -64,7 +64,7 @@ module _ (N : Network) (before after : List ℕ) where
   left-row (refused-9 loop) c l = (l .loop, (c .0, l .refutes), l .bytes)
 
   -- A row without a loop is answered at the floor, where any result has none.
-  row-no-loop : (e : Expected) → Comes N e → Left-as e → loopOf e ≡ [] → after ≡ bytesOf e ++ drop (length (bytesOf e)) before
+  row-no-loop : (e : Expected) → Comes N e → Left-as e → loopOf e ≡ [] → after ≡ rowBytes e ++ drop (length (rowBytes e)) before
   row-no-loop (answered P latencies loop) c l e =
       let floor : P ≡ N .floor = rw e at (c .2) in
       let none = floor-no-loop N P (l .0) (l .1 .2) floor in
@@ -84,7 +84,7 @@ worked-promised c w = record { allowed = allowed; only = only }
     given before enough = rw (row-number (c .result), row-place (c .result)) (w .given (length before) enough)
 
     allowed : (before : List ℕ) → 14 + 16 * networkOf f .registers ≤ length before
-        → FileResult f before (outcomeOf (c .result)) (bytesOf (c .result) ++ drop (length (bytesOf (c .result))) before)
+        → FileResult f before (outcomeOf (c .result)) (rowBytes (c .result) ++ drop (length (rowBytes (c .result))) before)
     allowed before enough = record { given = given before enough; output = row-left (networkOf f) before (c .result) (w .comes) }
 
     only : (before after : List ℕ) (o : Outcome) → 14 + 16 * networkOf f .registers ≤ length before → FileResult f before o after → AsRow c before o after

@@ -2,8 +2,7 @@
 use mathlib.Core.Path.{_≡_}
 use mathlib.Core.List.{List}
 use Prim.Native.Nat.{ℕ, _<_}
-use lib.IntN.{ℤ, pos, negsuc}
-use lib.Signed.{_≤ℤ_}
+use lib.IntN.{ℤ, pos}
 use Rattle.paper.specs.declared.Reply.{Reply}
 use Rattle.paper.specs.declared.Reply.the-variants as reply
 use Rattle.paper.specs.Network.{Network}
@@ -11,6 +10,8 @@ use Rattle.paper.specs.Rules.{Rule, kind, number, tail, head}
 use Rattle.paper.specs.File.{networkOf}
 use Rattle.paper.specs.Table.{Row}
 use Rattle.paper.specs.Question.{Question, InRange, Answers, questionRefusals}
+use Rattle.whole.specs.Between.{Between}
+use Rattle.paper.specs.Limits.{leastLatency, mostLatency}
 
 -- whether rule r is met at period P by the latencies x: it "names a file, a period, a rule by kind and number, and the latencies at the
 -- arrow's tail and head"
@@ -26,7 +27,7 @@ questionOf N P x r =
 
 -- "a latency is outside -1,000,000 to 1,000,000": none is
 abbrev pub LatenciesInRange : Network → (ℕ → ℤ) → Type 0
-LatenciesInRange N x = (i : ℕ) → i < N .registers → (negsuc 999999 ≤ℤ x i) × (x i ≤ℤ pos 1000000)
+LatenciesInRange N x = (i : ℕ) → i < N .registers → Between leastLatency mostLatency (x i)
 
 -- The question is not refused, and yes is the one reply to it.
 pub record SaysYes (N : Network) (rows : List Row) (q : Question) : Type 0 where

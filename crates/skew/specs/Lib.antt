@@ -2,7 +2,7 @@
 pub mod Asked
 pub mod Slack
 pub mod Same
-pub mod Shows
+pub mod Proves
 pub mod Rows
 pub mod Asks
 pub mod Reads

@@ -13,6 +13,7 @@ use Rattle.paper.specs.Output.{skewRecord, latencyRecords, entryRecords, Front}
 use Rattle.paper.specs.Numbers.{outcomeNumber, outcomePlace}
 use Rattle.paper.specs.Outcome.{FileResult}
 use Rattle.paper.specs.Cases.{Expected, answered, refused-8, refused-9, Case, Comes, numberOf, fileOf}
+use Rattle.paper.specs.Limits.{roomFor}
 
 -- the outcome, the loop and the bytes that a row names
 abbrev pub outcomeOf : Expected → Outcome
@@ -25,13 +26,13 @@ loopOf (answered P latencies loop) = loop
 loopOf (refused-8 loop) = loop
 loopOf (refused-9 loop) = loop
 
-abbrev pub bytesOf : Expected → List ℕ
-bytesOf (answered P latencies loop) =
+abbrev pub rowBytes : Expected → List ℕ
+rowBytes (answered P latencies loop) =
     skewRecord P (length latencies) (length loop)
     ++ latencyRecords (λ i. getD latencies i (pos 0)) (length latencies)
     ++ entryRecords loop
-bytesOf (refused-8 loop) = skewRecord 0 0 (length loop) ++ entryRecords loop
-bytesOf (refused-9 loop) = skewRecord 0 0 (length loop) ++ entryRecords loop
+rowBytes (refused-8 loop) = skewRecord 0 0 (length loop) ++ entryRecords loop
+rowBytes (refused-9 loop) = skewRecord 0 0 (length loop) ++ entryRecords loop
 
 -- the row with another loop in its place
 abbrev pub showing : List Rule → Expected → Expected
@@ -46,13 +47,13 @@ pub record AsRow (c : Case) (before : List ℕ) (o : Outcome) (after : List ℕ)
   pub place-is : outcomePlace o ≡ 0
   pub loop : List Rule
   pub comes : Comes (networkOf (fileOf (c .network))) (showing loop (c .result))
-  pub bytes : Front (bytesOf (showing loop (c .result))) before after
-  pub no-loop : loopOf (c .result) ≡ [] → Front (bytesOf (c .result)) before after
+  pub bytes : Front (rowBytes (showing loop (c .result))) before after
+  pub no-loop : loopOf (c .result) ≡ [] → Front (rowBytes (c .result)) before after
 
 pub record Promised (c : Case) : Type 0 where
   -- the row is allowed
-  pub allowed : (before : List ℕ) → 14 + 16 * networkOf (fileOf (c .network)) .registers ≤ length before
-      → FileResult (fileOf (c .network)) before (outcomeOf (c .result)) (bytesOf (c .result) ++ drop (length (bytesOf (c .result))) before)
+  pub allowed : (before : List ℕ) → roomFor (networkOf (fileOf (c .network)) .registers) ≤ length before
+      → FileResult (fileOf (c .network)) before (outcomeOf (c .result)) (rowBytes (c .result) ++ drop (length (rowBytes (c .result))) before)
   -- whatever is allowed is the row's
-  pub only : (before after : List ℕ) (o : Outcome) → 14 + 16 * networkOf (fileOf (c .network)) .registers ≤ length before
+  pub only : (before after : List ℕ) (o : Outcome) → roomFor (networkOf (fileOf (c .network)) .registers) ≤ length before
       → FileResult (fileOf (c .network)) before o after → AsRow c before o after

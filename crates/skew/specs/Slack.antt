@@ -10,13 +10,14 @@ use Rattle.paper.specs.File.{natural, within, networkOf}
 use Rattle.paper.specs.Refusals.{Accepted}
 use Rattle.paper.specs.Question.{Question, Asked, InRange}
 use Rattle.skew.specs.Asked.{asked}
+use Rattle.paper.specs.Limits.{mostPeriod, leastLatency, mostLatency}
 
 -- the ranges of the period and of the latencies at the arrow's tail and head
 unfoldable pub numbersWithin : ℤ → ℤ → ℤ → Bool
 numbersWithin period tail head =
-    within (pos 1) (pos 10000000) period
-    && within (negsuc 999999) (pos 1000000) tail
-    && within (negsuc 999999) (pos 1000000) head
+    within (pos 1) (pos mostPeriod) period
+    && within leastLatency mostLatency tail
+    && within leastLatency mostLatency head
 
 -- t tells whether A holds
 abbrev pub Tells : Bool → Type 0 → Type 0
@@ -30,7 +31,7 @@ TellsRule n m kind number t =
     → Tells t ((r : Rule) × Asked N (asked period kind number tail head) r)
 
 -- a question that is not refused: the file is accepted, with n registers, and the question is in range
-pub record Ready (f : List ℕ) (n : ℕ) (q : Question) : Type 0 where
+pub record Askable (f : List ℕ) (n : ℕ) (q : Question) : Type 0 where
   pub accepted : Accepted f
   pub registers : n ≡ networkOf f .registers
   pub in-range : InRange (networkOf f) q

@@ -5,14 +5,16 @@ ghost use Rattle.paper.specs.File.{networkOf};
 ghost use Rattle.paper.specs.Refusals.{Accepted};
 ghost use Rattle.paper.specs.Question.{FileAnswers};
 ghost use Rattle.skew.specs.Asked.{asked};
-ghost use Rattle.skew.specs.Slack.{numbersWithin, TellsRule, Ready, IsSlack};
-use network::field;
+ghost use Rattle.skew.specs.Slack.{numbersWithin, TellsRule, Askable, IsSlack};
 use network::read;
 use paper::Delay;
 use paper::Latency;
 use paper::Refusal;
 use paper::Reply;
 use paper::Verdict;
+use paper::limits;
+use whole::all3;
+use whole::within;
 
 // The file's own fault comes first, then number 10, then yes or no.
 pub fn question(file: &[u8], period: i32, kind: i32, number: i32, tail: i32, head: i32) -> Reply
@@ -58,10 +60,10 @@ fn reply(file: &[u8], period: i32, kind: i32, number: i32, tail: i32, head: i32)
 fn in_range(period: i32, tail: i32, head: i32) -> bool
     ensures { λ r. ⌜ r ≡ numbersWithin period tail head ⌝ }
 {
-    field::all3(
-        field::within(1, 10_000_000, period),
-        field::within(-1_000_000, 1_000_000, tail),
-        field::within(-1_000_000, 1_000_000, head),
+    all3(
+        within(1, limits::MOST_PERIOD, period),
+        within(limits::LEAST_LATENCY, limits::MOST_LATENCY, tail),
+        within(limits::LEAST_LATENCY, limits::MOST_LATENCY, head),
     )
 }
 
@@ -93,7 +95,7 @@ fn slack(
     tail: Latency,
     head: Latency,
 ) -> Delay
-    requires { ⌜ Ready (now file) n (asked (period .0) kind number (tail .0) (head .0)) ⌝ }
+    requires { ⌜ Askable (now file) n (asked (period .0) kind number (tail .0) (head .0)) ⌝ }
     ensures { λ r. ⌜ IsSlack (networkOf (now (file .entry))) (asked (period .0) kind number (tail .0) (head .0)) (r .0) ⌝ }
 {
     let k = number as usize;

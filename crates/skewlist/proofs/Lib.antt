@@ -1,2 +1,2 @@
--- What the scheduler leaves can be listed.
+-- What the scheduler leaves can be listed, and which ceiling its text has.
 pub mod Left

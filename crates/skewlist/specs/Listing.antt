@@ -2,14 +2,36 @@
 use mathlib.Core.Path.{_≡_}
 use mathlib.Core.List.{List}
 use Prim.Native.Nat.{ℕ}
+use lib.IntN.{ℤ, pos}
 use lib.ListN.{length}
 use Rattle.paper.specs.declared.Outcome.{Outcome}
+use Rattle.paper.specs.declared.Outcome.the-variants as outcome
+use Rattle.paper.specs.File.{networkOf}
 use Rattle.paper.specs.Output.{Front}
 use Rattle.paper.specs.Outcome.{FileResult}
+use Rattle.paper.specs.Refusals.{Accepted}
 use Rattle.listing.specs.Text.{textOf}
+
+-- the text of an outcome and an answer, with the ceiling of the file's own network where a text has one
+abbrev pub fileText : List ℕ → Outcome → List ℕ → List ℕ
+fileText file o answer = textOf (pos (networkOf file .ceiling)) o answer
 
 pub record Listing (file before answer blank text : List ℕ) (size : ℕ) : Type 0 where
   pub outcome : Outcome
   pub result : FileResult file before outcome answer
-  pub front : Front (textOf file outcome answer) blank text
-  pub size-is : size ≡ length (textOf file outcome answer)
+  pub front : Front (fileText file outcome answer) blank text
+  pub size-is : size ≡ length (fileText file outcome answer)
+
+-- ---- the ceiling of a text
+
+-- a file whose ceiling is shown is accepted
+abbrev pub CeilingKnown : List ℕ → Outcome → Type 0
+CeilingKnown file outcome.Answered = Unit {0}
+CeilingKnown file (outcome.Refused x) = Unit {0}
+CeilingKnown file outcome.Room = Unit {0}
+CeilingKnown file outcome.NoPeriod = Accepted file
+CeilingKnown file outcome.NoneToCeiling = Accepted file
+
+-- with this number for the ceiling the text is the file's
+abbrev pub SameText : List ℕ → Outcome → ℤ → Type 0
+SameText file o z = (answer : List ℕ) → textOf z o answer ≡ fileText file o answer

@@ -1,5 +1,5 @@
 -- Decimal numbers: a number's digits are those of its tenth part and then its last one; read, they give the number again; each is a digit,
--- and the first of a number that is not 0 is not the digit 0; and how many there are at most.
+-- and the first of a number that is not 0 is not the digit 0; and how many there are at most. Rests on no other file.
 use mathlib.Core.Path.{_≡_, refl, sym, ap, subst, _∙_}
 use mathlib.Core.List.{List, [], _∷_, _++_}
 use mathlib.Core.Bool.{Bool, true, false}
@@ -32,10 +32,12 @@ digits-enough (suc f) (suc g) n h k =
     by-size true e r = let l = ltb-true n 10 e in digits-one f n l ∙ sym (digits-one g n l)
     by-size false e r = let l = ltb-false n 10 e in digits-more f n l ∙ rw (r l) (sym (digits-more g n l))
 
+-- a number below 10 is one digit
 pub decimal-one : (n : ℕ) → n < 10 → decimal n ≡ (48 + n) ∷ []
 unfolding decimal
 decimal-one n h = digits-one n n h
 
+-- any other is its tenth part and then its last digit
 pub decimal-more : (n : ℕ) → 10 ≤ n → decimal n ≡ decimal (n / 10) ++ ((48 + n % 10) ∷ [])
 unfolding decimal
 decimal-more n h = digits-more n n h ∙ rw (digits-enough n (suc (n / 10)) (n / 10) (omega arith) (omega arith)) refl
@@ -52,7 +54,7 @@ module _ (P : ℕ → List ℕ → Type 0)
       by-size true e r = let l = ltb-true n 10 e in rw (decimal-one n l) (one n l)
       by-size false e r = let l = ltb-false n 10 e in rw (decimal-more n l) (more n l (r l))
 
-  pub by-digits : (n : ℕ) → P n (decimal n)
+  by-digits : (n : ℕ) → P n (decimal n)
   by-digits n = below (suc n) n (omega arith)
 
 -- ---- read, the digits give the number again
@@ -61,6 +63,7 @@ reading-append : (v : ℕ) (l k : List ℕ) → reading v (l ++ k) ≡ reading (
 reading-append v [] k = refl
 reading-append v (d ∷ l) k = reading-append (10 * v + (d - 48)) l k
 
+-- digits are read as their number
 pub decimal-read : (n : ℕ) → reading 0 (decimal n) ≡ n
 decimal-read =
     by-digits (λ n l. reading 0 l ≡ n)
@@ -86,6 +89,7 @@ headed =
 pub decimal-first : (n : ℕ) → 0 < n → 48 < getD (decimal n) 0 0
 decimal-first n = headed n .1
 
+-- every byte is a digit
 abbrev pub Digits : List ℕ → Type 0
 Digits [] = Unit {0}
 Digits (d ∷ l) = (48 ≤ d) × (d ≤ 57) × Digits l
@@ -94,6 +98,7 @@ digits-append : (l : List ℕ) (d : ℕ) → Digits l → d < 10 → Digits (l +
 digits-append [] d t h = (omega arith, omega arith, tt)
 digits-append (x ∷ l) d t h = (t .0, t .1, digits-append l d (t .2) h)
 
+-- a number is written in digits alone
 pub decimal-digits : (n : ℕ) → Digits (decimal n)
 decimal-digits =
     by-digits (λ n l. Digits l)

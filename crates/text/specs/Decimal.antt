@@ -17,6 +17,7 @@ digits (suc most) n =
 unfoldable pub decimal : ℕ → List ℕ
 decimal n = digits (suc n) n
 
+-- a whole number: a minus before the digits of a negative one
 unfoldable pub whole : ℤ → List ℕ
 whole (pos n) = decimal n
 whole (negsuc n) = 45 ∷ decimal (suc n)

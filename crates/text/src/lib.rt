@@ -1,11 +1,11 @@
 // Text into a lent buffer: bytes, and numbers in decimal. Each writer puts its bytes at a place and returns the place behind them; its contract
-// is `Written`, of specs/Written.antt.
+// is `Written`, or `Ended` where the place has a bound, of specs/Written.antt.
 ghost use mathlib.Core.Path.{_≡_};
 ghost use Prim.Native.Nat.{_+_, _≤_};
 ghost use lib.IntN.{natAbs};
 ghost use lib.ListN.{length};
 ghost use Rattle.text.specs.Decimal.{decimal, whole};
-ghost use Rattle.text.specs.Written.{Written};
+ghost use Rattle.text.specs.Written.{Ended, Written};
 
 // The bytes of `s`.
 pub fn put_text(text: &mut [u8], at: usize, s: &[u8]) -> usize
@@ -13,6 +13,7 @@ pub fn put_text(text: &mut [u8], at: usize, s: &[u8]) -> usize
     ensures { λ r. ⌜ Written (now (text .entry)) at (now (s .entry)) (now (text .exit)) r ⌝ }
 {
     let mut i = 0;
+    // `Copied`: the first i bytes stand in the text.
     while i < s.len() {
         text[at + i] = s[i];
         i += 1;
@@ -45,10 +46,10 @@ pub fn magnitude(z: i32) -> u64
     }
 }
 
-// A number takes at most a minus and ten digits: the contract also bounds the place behind the bytes.
+// A number takes at most a minus and ten digits.
 pub fn put_whole(text: &mut [u8], at: usize, z: i32) -> usize
     requires { ⌜ at + 11 ≤ length (now text) ⌝ }
-    ensures { λ r. ⌜ (Written (now (text .entry)) at (whole z) (now (text .exit)) r) × (r ≤ at + 11) ⌝ }
+    ensures { λ r. ⌜ Ended (now (text .entry)) at (whole z) (now (text .exit)) r (at + 11) ⌝ }
 {
     let n = magnitude(z);
     if z < 0 {

@@ -1,4 +1,4 @@
--- Examples of what `lin` closes, in the shapes that later proofs have.
+-- Examples of what `lin` closes, in the shapes that later proofs have. Rests on `Lin.antt`.
 use mathlib.Core.Path.{_≡_}
 use Prim.Native.Nat.{ℕ}
 use mathlib.Core.List.{List, [], _∷_}

@@ -1,4 +1,5 @@
--- Four-byte numbers: what is written is read back, every byte outside keeps its value, and each number has one writing only.
+-- Four-byte numbers: what is written is read back, every byte outside keeps its value, and each number has one writing only. Rests on
+-- `Stores.antt` and `Lin.antt`.
 use mathlib.Core.Path.{_≡_, refl, sym, ap, _∙_}
 use mathlib.Core.Logic.{_⊎_, inl, inr}
 use mathlib.Core.List.{List, [], _∷_, _++_}
@@ -17,20 +18,21 @@ use Rattle.whole.specs.Four.{wordAt, signedOf, numberAt, wordOf, bytesOf
 use Rattle.whole.proofs.Lin.{lin, minus}
 use Rattle.whole.proofs.Stores.{stores-before, stores-after, stores-at}
 
--- A number that fits 32 bits comes back from the number without sign that stands for it, which is below 2 ^ 32.
-pub word-small : (z : ℤ) → SFits w32 z → wordOf z < 4294967296
+-- the number without sign that stands for a number of 32 bits is below 2 ^ 32
+word-small : (z : ℤ) → SFits w32 z → wordOf z < 4294967296
 unfolding wordOf
 word-small (pos n) h = omega (arith, h .sfits)
 word-small (negsuc n) h = omega (arith, h .sfits)
 
-pub signed-word : (z : ℤ) → SFits w32 z → signedOf (wordOf z) ≡ z
+-- and the number comes back from it
+signed-word : (z : ℤ) → SFits w32 z → signedOf (wordOf z) ≡ z
 unfolding signedOf wordOf
 signed-word (pos n) h = rw (lt-ltb n 2147483648 (h .sfits))
 signed-word (negsuc n) h =
     rw (le-ltb (4294967296 - suc n) 2147483648 (omega (arith, h .sfits)))
     (let f = h .sfits in omega (lin, minus (pos (4294967296 - suc n)) (pos 4294967296)))
 
--- From 2 ^ 31 on a number without sign stands for a negative one.
+-- from 2 ^ 31 on a number without sign stands for a negative one
 lower-is : (u : ℕ) → u < 4294967296 → pos u -ℤ pos 4294967296 ≡ negsuc (4294967296 - suc u)
 lower-is u h = omega (lin, minus (pos u) (pos 4294967296))
 
@@ -39,7 +41,8 @@ unfolding signedOf wordOf
 signed-case u true e h = rw e refl
 signed-case u false e h = rw (e, lower-is u h) (omega arith)
 
-pub word-signed : (u : ℕ) → u < 4294967296 → wordOf (signedOf u) ≡ u
+-- a number without sign comes back from the number that it stands for
+word-signed : (u : ℕ) → u < 4294967296 → wordOf (signedOf u) ≡ u
 word-signed u h = signed-case u (ltb u 2147483648) refl h
 
 -- u by its digits to the base 256, of which the fourth is the last
@@ -57,8 +60,8 @@ quarters u h =
     last : (u q r s a b c d : ℕ) → u ≡ 256 * q + a → q ≡ 256 * r + b → r ≡ 256 * s + c → s ≡ d → a + 256 * b + 65536 * c + 16777216 * d ≡ u
     last u q r s a b c d e f g h = omega arith
 
--- The four bytes of u, added up, are u again.
-pub word-back : (s : List ℕ) (i u : ℕ) → i + 4 ≤ length s → u < 4294967296 → wordAt (sets s i (bytesOf u)) i ≡ u
+-- the four bytes of u, added up, are u again
+word-back : (s : List ℕ) (i u : ℕ) → i + 4 ≤ length s → u < 4294967296 → wordAt (sets s i (bytesOf u)) i ≡ u
 unfolding wordAt bytesOf
 word-back s i u room h =
     let e0 : getD (sets s i (bytesOf u)) i 0 ≡ u % 256 = rw add-zero at (stores-at 0 (bytesOf u) s i 0 room (omega arith)) in
@@ -77,6 +80,7 @@ pub number-first : (z : ℤ) (rest : List ℕ) → SFits w32 z → numberAt (fou
 unfolding four bytesOf
 number-first z rest h = number-back (four z ++ rest) 0 z (omega arith) h
 
+-- a number takes four bytes
 pub four-length : (z : ℤ) → length (four z) ≡ 4
 unfolding four bytesOf
 four-length z = refl

@@ -1,7 +1,7 @@
 -- Linear reasoning over ℤ by `omega`. `omega` reads natural numbers, so a whole number z is split into `above z`, by how much it lies
 -- above 0, and `below z`, by how much it lies below 0: z is their difference. Each law turns a statement about whole numbers into one
 -- about those parts, or back. The set `lin` hands them all to `omega`, the more special shapes first, since `omega` takes the first
--- that fits. A sum that stands deeper wants its own law in the list, as `omega (lin, plus a b)`; a negation `negs a`.
+-- that fits. A sum that stands deeper wants its own law in the list, as `omega (lin, plus a b)`; a negation `negs a`. Rests on no other file.
 use mathlib.Core.Path.{_≡_, refl, sym, ap, _∙_, subst}
 use Prim.Native.Nat.{ℕ, zero, suc, pred, max, _+_, _-_, _≤_, _<_, _^_}
 use native.Mathlib.Omega.{arith}
@@ -14,36 +14,34 @@ use borrow.Author.Tests.{ltb-true, ltb-false}
 use mir.Syntax.{Width}
 use mir.Val.{SFits, toZ, ofZ, hbits}
 use mir.Facts.{toZ-ofZ}
+pub use Rattle.whole.specs.Parts.{above, below}
 
-abbrev pub above : ℤ → ℕ
-above (pos n) = n
-above (negsuc n) = 0
-
-abbrev pub below : ℤ → ℕ
-below (pos n) = 0
-below (negsuc n) = suc n
-
+-- by how much a number lies above 0
 -- ---- sums, differences, negation
 
 sub-case : (a b : ℕ) (t : Bool) → ltb a b ≡ t → above (cond t (negsuc (b - suc a)) (pos (a - b))) + b ≡ a + below (cond t (negsuc (b - suc a)) (pos (a - b)))
 sub-case a b true e = omega (arith, ltb-true a b e)
 sub-case a b false e = omega (arith, ltb-false a b e)
 
+-- a sum, by its parts
 pub plus : (a b : ℤ) → above (a +ℤ b) + (below a + below b) ≡ (above a + above b) + below (a +ℤ b)
 plus (pos a) (pos b) = omega arith
 plus (pos a) (negsuc b) = omega (arith, sub-case a (suc b) (ltb a (suc b)) refl)
 plus (negsuc a) (pos b) = omega (arith, sub-case b (suc a) (ltb b (suc a)) refl)
 plus (negsuc a) (negsuc b) = omega arith
 
+-- b is a with its parts exchanged
 pub record Negated (a b : ℤ) : Type 0 where
   pub is-above : above b ≡ below a
   pub is-below : below b ≡ above a
 
+-- a negation, by its parts
 pub negs : (a : ℤ) → Negated a (negℤ a)
 negs (pos zero) = omega arith
 negs (pos (suc n)) = omega arith
 negs (negsuc n) = omega arith
 
+-- a difference, by its parts
 pub minus : (a b : ℤ) → above (a -ℤ b) + (below a + above b) ≡ (above a + below b) + below (a -ℤ b)
 minus a b = omega (arith, plus a (negℤ b), negs b)
 
@@ -73,16 +71,19 @@ lt-out (pos a) (negsuc b) h = omega arith
 lt-out (negsuc a) (pos b) h = tt
 lt-out (negsuc a) (negsuc b) h = lt→ltb b a (omega arith)
 
+-- what an equation says of the parts
 pub eq-hyp : (a b : ℤ) → a ≡ b → above a + below b ≡ above b + below a
 eq-hyp a b e = ap (λ z. above a + below z) (sym e) ∙ omega (arith, ap above e)
 
+-- and an equation from its parts
 pub eq-goal : (a b : ℤ) → above a + below b ≡ above b + below a → a ≡ b
 eq-goal (pos a) (pos b) h = let e : a ≡ b = omega arith in ap pos e
 eq-goal (pos a) (negsuc b) h = absurd (omega arith)
 eq-goal (negsuc a) (pos b) h = absurd (omega arith)
 eq-goal (negsuc a) (negsuc b) h = let e : a ≡ b = omega arith in ap negsuc e
 
--- ---- the same where a side is a sum: on the left, on the right, on both
+-- ---- the same where a side is a sum: on the left (l), on the right (r), on both (lr). Each -hyp reads what is known, each -goal shows
+-- what is asked for.
 pub le-hyp-lr : (a b c d : ℤ) → (a +ℤ b) ≤ℤ (c +ℤ d) → (above a + above b) + (below c + below d) ≤ (above c + above d) + (below a + below b)
 le-hyp-lr a b c d h = omega (arith, le-in (a +ℤ b) (c +ℤ d) (h .le), plus a b, plus c d)
 
@@ -149,7 +150,7 @@ eq-hyp-r a b c h = omega (arith, eq-hyp a (b +ℤ c) h, plus b c)
 pub eq-goal-r : (a b c : ℤ) → above a + (below b + below c) ≡ (above b + above c) + below a → a ≡ (b +ℤ c)
 eq-goal-r a b c h = eq-goal a (b +ℤ c) (omega (arith, plus b c))
 
--- ---- tests: what a flag says, and the flag from what holds
+-- ---- tests: what a flag says (le-true, le-false, lt-true, lt-false), and the flag from what holds (true-le, false-le, true-lt, false-lt)
 
 T-of : {t : Bool} → t ≡ true → T t
 T-of e = subst T (sym e) tt
@@ -180,6 +181,7 @@ false-le a b h = no-T (leZ a b) (λ t. omega (arith, le-in a b t))
 pub false-lt : (a b : ℤ) → above b + below a ≤ above a + below b → ltZ a b ≡ false
 false-lt a b h = no-T (ltZ a b) (λ t. omega (arith, lt-in a b t))
 
+-- no flag is both
 pub true-not-false : {t : Bool} → t ≡ true → t ≡ false → ⊥
 true-not-false p q = let z : _≡_ {A = ℕ} 0 1 = ap (λ b. cond b 0 1) (sym p ∙ q) in omega arith
 
@@ -199,19 +201,28 @@ lt-false a b e = lt-case (decLt (above a + below b) (above b + below a))
 
 -- ---- machine numbers: a number that fits is read back as itself; what fits lies between the ends of its width
 
+-- a number that fits, written and read
 pub fits-read : (w : Width) (z : ℤ) → SFits w z → above (toZ w (ofZ w z)) + below z ≡ above z + below (toZ w (ofZ w z))
 fits-read w z h = eq-hyp (toZ w (ofZ w z)) z (toZ-ofZ h)
 
+-- a number between the ends of a width fits
 pub fits-goal : (w : Width) (z : ℤ) → max (above z - below z) (pred (below z - above z)) < 2 ^ hbits w → SFits w z
 fits-goal w (pos n) h = record { sfits = omega arith }
 fits-goal w (negsuc n) h = record { sfits = omega arith }
 
-pub record Between (w : Width) (z : ℤ) : Type 0 where
+-- z lies between the ends of a width
+pub record InWidth (w : Width) (z : ℤ) : Type 0 where
   pub under : above z < 2 ^ hbits w
   pub over : below z ≤ 2 ^ hbits w
 
-pub fits-between : (w : Width) (z : ℤ) → SFits w z → Between w z
+-- a number that fits lies between them
+pub fits-between : (w : Width) (z : ℤ) → SFits w z → InWidth w z
 fits-between w (pos n) h = record { under = h .sfits; over = omega arith }
 fits-between w (negsuc n) h = omega (arith, h .sfits)
 
-pub ruleset lin = (le-hyp-lr, le-hyp-l, le-hyp-r, le-hyp, lt-hyp-lr, lt-hyp-l, lt-hyp-r, lt-hyp, eq-hyp-lr, eq-hyp-l, eq-hyp-r, eq-hyp, le-goal-lr, le-goal-l, le-goal-r, le-goal, lt-goal-lr, lt-goal-l, lt-goal-r, lt-goal, eq-goal-lr, eq-goal-l, eq-goal-r, eq-goal, le-true, le-false, lt-true, lt-false, true-le, false-le, true-lt, false-lt, fits-read, fits-goal, arith)
+-- all of them, for `omega`: what is read, what is shown, the tests, and the machine's numbers
+pub ruleset read = (le-hyp-lr, le-hyp-l, le-hyp-r, le-hyp, lt-hyp-lr, lt-hyp-l, lt-hyp-r, lt-hyp, eq-hyp-lr, eq-hyp-l, eq-hyp-r, eq-hyp)
+
+pub ruleset shown = (le-goal-lr, le-goal-l, le-goal-r, le-goal, lt-goal-lr, lt-goal-l, lt-goal-r, lt-goal, eq-goal-lr, eq-goal-l, eq-goal-r, eq-goal)
+
+pub ruleset lin = (read, shown, le-true, le-false, lt-true, lt-false, true-le, false-le, true-lt, false-lt, fits-read, fits-goal, arith)

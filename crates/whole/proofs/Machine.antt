@@ -1,4 +1,4 @@
--- Numbers on their way through machine words: what a cast or a read of a number that fits gives is the number itself.
+-- Numbers on their way through machine words: what a cast or a read of a number that fits gives is the number itself. Rests on `Lin.antt`.
 use mathlib.Core.Path.{_≡_, refl}
 use Prim.Native.Nat.{ℕ, suc, _+_, _-_, _≤_, _<_}
 use native.Mathlib.Omega.{arith}
@@ -17,10 +17,11 @@ use Rattle.whole.proofs.Lin.{lin, plus, minus, fits-between}
 pub wide-is : (u : ℕ) → u < 4294967296 → toZ w64 u ≡ pos u
 wide-is u h = toZ-pos w64 (omega arith)
 
--- such a number less k, at 64 bits and, where it comes out within them, at 32
+-- such a number less k fits 64 bits
 pub less-fits : (u k : ℕ) → u < 4294967296 → k ≤ 4294967296 → SFits w64 (pos u -ℤ pos k)
 less-fits u k h g = omega (lin, minus (pos u) (pos k))
 
+-- and 32 bits, where it comes out within them
 pub less-fits-half : (u k : ℕ) → u < 2147483648 + k → k ≤ 2147483648 + u → SFits w32 (pos u -ℤ pos k)
 less-fits-half u k h g = omega (lin, minus (pos u) (pos k))
 
@@ -32,12 +33,13 @@ widens h = sfits-widen tt h
 pub raised-fits : (z : ℤ) → SFits w32 z → SFits w64 (z +ℤ pos 4294967296)
 raised-fits z h = omega (lin, plus z (pos 4294967296), fits-between w32 z h)
 
--- A number below 0, more 2 ^ 32, is the number without sign that stands for it; one from 0 up stands for itself.
+-- y is the number without sign that stands for z
 pub record Unsigned (z y : ℤ) : Type 0 where
   pub not-negative : T (nonNeg y)
   pub fits : Fits w32 (natAbs y)
   pub stands : natAbs y ≡ wordOf z
 
+-- a number below 0 stands at itself more 2 ^ 32
 pub below-zero : (z : ℤ) → SFits w32 z → z <ℤ pos 0 → Unsigned z (z +ℤ pos 4294967296)
 unfolding wordOf
 below-zero (pos n) h k = absurd (omega lin)
@@ -45,6 +47,7 @@ below-zero (negsuc n) h k =
     let e : ltb 4294967296 (suc n) ≡ false = le-ltb 4294967296 (suc n) (omega (arith, h .sfits)) in
     rw e (record { not-negative = tt; fits = record { fits = omega arith }; stands = refl })
 
+-- one from 0 up stands at itself
 pub from-zero : (z : ℤ) → SFits w32 z → pos 0 ≤ℤ z → Unsigned z z
 unfolding wordOf
 from-zero (pos n) h k = record { not-negative = tt; fits = record { fits = omega (arith, h .sfits) }; stands = refl }

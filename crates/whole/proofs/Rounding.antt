@@ -1,4 +1,4 @@
--- Rounding up is what its name says: the least whole number q with z ≤ q · g, and no other number is that.
+-- Rounding up is what its name says: the least whole number q with z ≤ q · g, and no other number is that. Rests on `Lin.antt`.
 use mathlib.Core.Path.{_≡_, refl, sym, ap, _∙_}
 use Prim.Native.Nat.{ℕ, zero, suc, _+_, _-_, _*_, _/_, _≤_, _<_}
 use native.Mathlib.Omega.{arith}
@@ -6,10 +6,10 @@ use native.Mathlib.Nat.{div-add-mod', mod-lt, div-lt-iff-lt-mul, le-div-iff-mul-
 use lib.IntN.{ℤ, pos, negsuc, negℤ, natAbs, _*ℤ_, _-ℤ_}
 use lib.Signed.{_≤ℤ_, _<ℤ_, nonNeg}
 use lib.Dec.{T}
-use mir.Syntax.{Width, w64}
+use mir.Syntax.{w64}
 use mir.Val.{SFits}
 use Rattle.whole.specs.Rounding.{roundUp, IsUp}
-use Rattle.whole.proofs.Lin.{lin, above, below, negs, fits-between}
+use Rattle.whole.proofs.Lin.{lin, above, below, negs}
 
 -- q · g, for a natural g, by its parts
 pub times : (q : ℤ) (g : ℕ) → above (q *ℤ pos g) + below q * g ≡ above q * g + below (q *ℤ pos g)
@@ -47,6 +47,7 @@ up-only z g q h enough least =
 
 -- ---- natural numbers, as the code rounds them
 
+-- nothing, rounded up
 pub up-none : (k : ℕ) → 0 < k → IsUp 0 k 0
 up-none k h = record { is = sym (div-eq-of-lt (omega arith)); most = omega arith }
 
@@ -62,11 +63,13 @@ up-is (suc n) k h = let u = up-some (suc n) k h (omega arith) in record { is = r
 
 -- ---- whole numbers of 64 bits, as the code has them: z from 0 up by itself, and z below 0 as -1 - z
 
+-- z, from 0 up, as the code divides it
 pub record Upward (z : ℤ) : Type 0 where
   pub not-negative : T (nonNeg z)
   pub few : natAbs z < 9223372036854775808
   pub stands : (k q : ℕ) → IsUp (natAbs z) k q → pos q ≡ roundUp z k
 
+-- a number from 0 up is so
 pub up-from-zero : (z : ℤ) → SFits w64 z → pos 0 ≤ℤ z → Upward z
 unfolding roundUp
 up-from-zero (pos n) f h = record { not-negative = tt; few = f .sfits; stands = λ k q i. ap pos (i .is) }
@@ -75,12 +78,14 @@ up-from-zero (negsuc n) f h = absurd (h .le)
 less-one : (n : ℕ) → negsuc 0 -ℤ negsuc n ≡ pos n
 less-one n = omega lin
 
+-- y, which is -1 - z of a z below 0, as the code divides one more than it
 pub record Downward (z y : ℤ) : Type 0 where
   pub fits : SFits w64 y
   pub not-negative : T (nonNeg y)
   pub few : natAbs y < 9223372036854775808
   pub stands : (k : ℕ) → negℤ (pos ((natAbs y + 1) / k)) ≡ roundUp z k
 
+-- -1 - z of a number z below 0 is so
 pub up-below-zero : (z : ℤ) → SFits w64 z → z <ℤ pos 0 → Downward z (negsuc 0 -ℤ z)
 unfolding roundUp
 up-below-zero (pos n) f h = absurd (omega lin)
@@ -93,6 +98,7 @@ pub record Minus (q : ℕ) (y : ℤ) : Type 0 where
   pub fits : SFits w64 y
   pub is : y ≡ negℤ (pos q)
 
+-- -1 less q - 1 is -q, and fits
 pub minus-is : (q : ℕ) → q ≤ 9223372036854775808 → 0 < q → Minus q (negsuc 0 -ℤ pos (q - 1))
 minus-is zero h some = absurd (omega arith)
 minus-is (suc q) h some =
@@ -102,11 +108,11 @@ minus-is (suc q) h some =
 
 -- ---- where a rounded quotient lies: on the same side of 0 as the number, and no further from 0
 
-pub record Nearer (z q : ℤ) : Type 0 where
+record Nearer (z q : ℤ) : Type 0 where
   pub up : above q ≤ above z
   pub down : below q ≤ below z
 
-pub up-nearer : (z : ℤ) (g : ℕ) → 0 < g → Nearer z (roundUp z g)
+up-nearer : (z : ℤ) (g : ℕ) → 0 < g → Nearer z (roundUp z g)
 unfolding roundUp
 up-nearer (pos n) g h = record { up = up-is n g h .most; down = omega arith }
 up-nearer (negsuc n) g h = let s = negs (pos (suc n / g)) in record { up = omega arith; down = omega (arith, div-le-self (suc n) g) }
@@ -120,22 +126,10 @@ nearer-from (pos n) q a h k r = omega lin
 nearer-from (negsuc n) q a h k r = omega lin
 
 module _ {z : ℤ} {g : ℕ} (some : 0 < g) where
-  -- so it lies between any two bounds of the number, one from 0 down and one from 0 up
+  -- so it lies below any bound of the number from 0 up
   pub up-to : (b : ℤ) → pos 0 ≤ℤ b → z ≤ℤ b → roundUp z g ≤ℤ b
   up-to b h k = nearer-to z (roundUp z g) b h k (up-nearer z g some)
 
+  -- and above any bound of the number from 0 down
   pub up-from : (a : ℤ) → a ≤ℤ pos 0 → a ≤ℤ z → a ≤ℤ roundUp z g
   up-from a h k = nearer-from z (roundUp z g) a h k (up-nearer z g some)
-
-  -- it fits where the number does
-  pub up-fits : (w : Width) → SFits w z → SFits w (roundUp z g)
-  up-fits w f = let n = up-nearer z g some in omega (lin, fits-between w z f)
-
-  -- and is positive where the number is
-  pub up-positive : pos 0 <ℤ z → pos 0 <ℤ roundUp z g
-  up-positive h = let e = up-enough z g some in positive (roundUp z g) e
-    where
-      positive : (q : ℤ) → z ≤ℤ (q *ℤ pos g) → pos 0 <ℤ q
-      positive (pos zero) e = absurd (omega (lin, times (pos zero) g))
-      positive (pos (suc n)) e = omega lin
-      positive (negsuc n) e = absurd (omega (lin, times (negsuc n) g))

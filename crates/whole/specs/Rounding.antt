@@ -8,7 +8,7 @@ unfoldable pub roundUp : ℤ → ℕ → ℤ
 roundUp (pos n) g = pos ((n + (g - 1)) / g)
 roundUp (negsuc n) g = negℤ (pos (suc n / g))
 
--- q is the quotient of natural numbers n and g, rounded up
+-- q is the quotient of natural numbers n and g, rounded up, and so at most n
 pub record IsUp (n g q : ℕ) : Type 0 where
   pub is : q ≡ (n + (g - 1)) / g
   pub most : q ≤ n

@@ -1,12 +1,14 @@
 // Whole numbers in a byte slice: four bytes each, two's complement, low byte first. Each contract cites one definition of specs/Four.antt.
-// And a quotient rounded up, by specs/Rounding.antt.
+// A quotient rounded up, by specs/Rounding.antt. And tests of numbers, by specs/Within.antt.
 ghost use mathlib.Core.Path.{_≡_};
+ghost use mathlib.Core.Bool.{_&&_};
 ghost use Prim.Native.Nat.{_+_, _≤_, _<_};
 ghost use lib.ListN.{length};
 ghost use lib.Seq.{sets};
 ghost use lib.IntN.{pos, negℤ};
 ghost use Rattle.whole.specs.Four.{wordAt, signedOf, numberAt, wordOf, bytesOf, four};
 ghost use Rattle.whole.specs.Rounding.{roundUp, IsUp};
+ghost use Rattle.whole.specs.Within.{within};
 
 // A byte as a wider number: below 256, which its callers' sums rest on.
 fn wide(b: u8) -> u32
@@ -15,6 +17,7 @@ fn wide(b: u8) -> u32
     b as u32
 }
 
+// The four bytes from a place on, as a number without sign.
 fn word(s: &[u8], at: usize) -> u32
     requires { ⌜ at + 4 ≤ length (now s) ⌝ }
     ensures { λ r. ⌜ r ≡ wordAt (now (s .entry)) at ⌝ }
@@ -22,6 +25,7 @@ fn word(s: &[u8], at: usize) -> u32
     wide(s[at]) + 256 * wide(s[at + 1]) + 65536 * wide(s[at + 2]) + 16777216 * wide(s[at + 3])
 }
 
+// The number that a number without sign stands for.
 fn signed(u: u32) -> i32
     ensures { λ r. ⌜ r ≡ signedOf u ⌝ }
 {
@@ -40,6 +44,7 @@ pub fn number(s: &[u8], at: usize) -> i32
     signed(word(s, at))
 }
 
+// The number without sign that stands for a number.
 fn unsigned(z: i32) -> u32
     ensures { λ r. ⌜ r ≡ wordOf z ⌝ }
 {
@@ -50,6 +55,7 @@ fn unsigned(z: i32) -> u32
     }
 }
 
+// Writes the four bytes of a number without sign, low byte first.
 fn put_word(out: &mut [u8], at: usize, u: u32)
     requires { ⌜ at + 4 ≤ length (now out) ⌝ }
     ensures { λ _. ⌜ now (out .exit) ≡ sets (now (out .entry)) at (bytesOf u) ⌝ }
@@ -95,4 +101,25 @@ pub fn round_up(z: i64, k: usize) -> i64
         let less = (-1 - z) as usize;
         negative((less + 1) / k)
     }
+}
+
+// Whether a number lies from low to high.
+pub fn within(low: i32, high: i32, z: i32) -> bool
+    ensures { λ r. ⌜ r ≡ within low high z ⌝ }
+{
+    low <= z && z <= high
+}
+
+// Tests that have all been run, joined: a caller then has one equation for the whole, and no chain of branches.
+pub fn both(a: bool, b: bool) -> bool
+    ensures { λ r. ⌜ r ≡ a && b ⌝ }
+{
+    a && b
+}
+
+// Three tests, joined.
+pub fn all3(a: bool, b: bool, c: bool) -> bool
+    ensures { λ r. ⌜ r ≡ a && b && c ⌝ }
+{
+    both(both(a, b), c)
 }

@@ -42,11 +42,11 @@ returns c =
     let k = start (headed (timed (entered c))) in
     let a = k .args in
     let loop = shown (now (a .kind)) (now (a .number)) (now (a .ring)) (a .entries) in
-    let counted : length loop ≡ a .entries = map-length _ _ _ (k .pre .0 .enough) in
-    let few = k .pre .0 .few in
-    let room : 14 + 6 * length (now (a .row)) + 10 * length loop ≤ length (now (a .out)) = let r = k .pre .1 .1 in omega arith in
+    let counted : length loop ≡ a .entries = map-length _ _ _ (k .pre .nameable .enough) in
+    let few = k .pre .nameable .few in
+    let room : 14 + 6 * length (now (a .row)) + 10 * length loop ≤ length (now (a .out)) = let r = k .pre .room in omega arith in
     answered-front loop _ (toZ-pos w32 (omega arith) ∙ ap pos (sym counted)) (now (a .row)) (now (a .out)) _ _ _ (a .period) _ _ room
-    (headed (timed (entered c)) .put-skew .ensures) (toZ-ofZ (k .fits .period)) (toZ-pos w32 (let r = k .pre .1 .0 in omega arith))
+    (headed (timed (entered c)) .put-skew .ensures) (toZ-ofZ (k .fits .period)) (toZ-pos w32 (let r = k .pre .few in omega arith))
     (timed (entered c) .put-latencies .ensures) (entered c .put-entries .ensures)
 
 pub answered-spec : {M : Type 1} → statement M

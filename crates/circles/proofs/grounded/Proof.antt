@@ -8,10 +8,10 @@ use Rattle.circles.proofs.grounded.Statement.{statement}
 use Rattle.circles.proofs.grounded.Tie as tie
 
 abbrev Inv-loop : tie.InvT-loop
-Inv-loop tail head amount n m p s k₀ v₀ k v = Followed (arrows n m tail head amount) p s k v
+Inv-loop tail head amount n count preds s k₀ v₀ k v = Followed (arrows n count tail head amount) preds s k v
 
 abbrev μ-loop : tie.MeasureT-loop
-μ-loop tail head amount n m p s k₀ v₀ k v = n - k
+μ-loop tail head amount n count preds s k₀ v₀ k v = n - k
 
 -- the places that are spoken of, each from the one after it
 abbrev start-at-shared-slice-known3 : (c : tie.After-shared-slice-known3 Inv-loop μ-loop) → tie.Start Inv-loop μ-loop
@@ -24,7 +24,7 @@ abbrev onward : (c : tie.Else1 Inv-loop μ-loop) → tie.In-loop Inv-loop μ-loo
 onward c = c .before .before
 
 loop-holds : tie.Need-loop-holds Inv-loop μ-loop
-loop-holds c = followed-none _ _ _ (c .before .before .before .pre .1 .1)
+loop-holds c = followed-none _ _ _ (c .before .before .before .pre .below)
 
 mul-if1 : tie.Need-mul-if1 Inv-loop μ-loop
 mul-if1 c = search needs
@@ -43,7 +43,7 @@ step-requires c κs =
     let k = entry (onward c .before) in
     let at = onward c .before .loop .inv .below in
     let by = c .if1 .left in
-    (omega (arith, at, k .pre .1 .0), omega (arith, by, k .pre .0 .tails-long))
+    (omega (arith, at, k .pre .preds-long), omega (arith, by, k .pre .shape .tails-long))
 
 add-k : tie.Need-add-k Inv-loop μ-loop
 add-k c = search needs
@@ -54,7 +54,7 @@ loop-less c = search needs
 loop-again : tie.Need-loop-again Inv-loop μ-loop
 loop-again c =
     let i = onward (c .before) in
-    rw (c .step .ensures) (followed-more _ _ _ _ _ (entry (i .before) .pre .0 .sound) (i .loop-test .taken) (c .before .if1 .left) (i .before .loop .inv))
+    rw (c .step .ensures) (followed-more _ _ _ _ _ (entry (i .before) .pre .shape .sound) (i .loop-test .taken) (c .before .if1 .left) (i .before .loop .inv))
 
 mul-result : tie.Need-mul-result Inv-loop μ-loop
 mul-result c = search needs

@@ -8,10 +8,10 @@ use Rattle.circles.proofs.lowest.Statement.{statement}
 use Rattle.circles.proofs.lowest.Tie as tie
 
 abbrev Inv-loop : tie.InvT-loop
-Inv-loop tail head amount n m p s k₀ v₀ low₀ k v low = Lowered (arrows n m tail head amount) p s k v low
+Inv-loop tail head amount n count preds s k₀ v₀ low₀ k v low = Lowered (arrows n count tail head amount) preds s k v low
 
 abbrev μ-loop : tie.MeasureT-loop
-μ-loop tail head amount n m p s k₀ v₀ low₀ k v low = n - k
+μ-loop tail head amount n count preds s k₀ v₀ low₀ k v low = n - k
 
 abbrev start-at-shared-slice-known3 : (c : tie.After-shared-slice-known3 Inv-loop μ-loop) → tie.Start Inv-loop μ-loop
 start-at-shared-slice-known3 c = c .before .before .before
@@ -25,9 +25,9 @@ loop-holds c = lowered-none _ _ _
 step-requires : tie.Need-step-requires Inv-loop μ-loop
 step-requires c κs =
     let k = entry (c .before) in
-    let at = gone-below _ _ _ _ _ (k .pre .0 .sound) (k .pre .1 .1) (k .pre .1 .2) (c .before .loop .inv .gone) in
-    let by = gone-arrow _ _ _ _ _ (c .loop-test .taken) (k .pre .1 .2) (c .before .loop .inv .gone) in
-    (omega (arith, at, k .pre .1 .0), omega (arith, by, k .pre .0 .tails-long))
+    let at = gone-below _ _ _ _ _ (k .pre .follows .shape .sound) (k .pre .follows .below) (k .pre .arrows) (c .before .loop .inv .gone) in
+    let by = gone-arrow _ _ _ _ _ (c .loop-test .taken) (k .pre .arrows) (c .before .loop .inv .gone) in
+    (omega (arith, at, k .pre .follows .preds-long), omega (arith, by, k .pre .follows .shape .tails-long))
 
 add-k : tie.Need-add-k Inv-loop μ-loop
 add-k c = search needs

@@ -8,10 +8,10 @@ use Rattle.circles.proofs.onto.Statement.{statement}
 use Rattle.circles.proofs.onto.Tie as tie
 
 abbrev Inv-loop : tie.InvT-loop
-Inv-loop tail head amount n m p s k₀ v₀ k v = Gone (arrows n m tail head amount) p s k v
+Inv-loop tail head amount n count preds s k₀ v₀ k v = Gone (arrows n count tail head amount) preds s k v
 
 abbrev μ-loop : tie.MeasureT-loop
-μ-loop tail head amount n m p s k₀ v₀ k v = n - k
+μ-loop tail head amount n count preds s k₀ v₀ k v = n - k
 
 abbrev start-at-shared-slice-known3 : (c : tie.After-shared-slice-known3 Inv-loop μ-loop) → tie.Start Inv-loop μ-loop
 start-at-shared-slice-known3 c = c .before .before .before
@@ -25,9 +25,9 @@ loop-holds c = gone-none _ _ _
 step-requires : tie.Need-step-requires Inv-loop μ-loop
 step-requires c κs =
     let k = entry (c .before) in
-    let at = gone-below _ _ _ _ _ (k .pre .0 .sound) (k .pre .1 .1) (k .pre .1 .2) (c .before .loop .inv) in
-    let by = gone-arrow _ _ _ _ _ (c .loop-test .taken) (k .pre .1 .2) (c .before .loop .inv) in
-    (omega (arith, at, k .pre .1 .0), omega (arith, by, k .pre .0 .tails-long))
+    let at = gone-below _ _ _ _ _ (k .pre .follows .shape .sound) (k .pre .follows .below) (k .pre .arrows) (c .before .loop .inv) in
+    let by = gone-arrow _ _ _ _ _ (c .loop-test .taken) (k .pre .arrows) (c .before .loop .inv) in
+    (omega (arith, at, k .pre .follows .preds-long), omega (arith, by, k .pre .follows .shape .tails-long))
 
 add-k : tie.Need-add-k Inv-loop μ-loop
 add-k c = search needs

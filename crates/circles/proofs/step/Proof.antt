@@ -7,7 +7,7 @@ use Rattle.circles.proofs.step.Statement.{statement}
 use Rattle.circles.proofs.step.Tie as tie
 
 cast-result-2 : tie.Need-cast-result-2
-cast-result-2 c = omega (arith, c .shared-slice-known2 .given (getD (now (c .before .before .args .p)) (c .before .before .args .v) 0))
+cast-result-2 c = omega (arith, c .shared-slice-known2 .given (getD (now (c .before .before .args .preds)) (c .before .before .args .v) 0))
 
 pub step-spec : {M : Type 1} → statement M
 step-spec =

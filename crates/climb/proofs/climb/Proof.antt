@@ -1,182 +1,212 @@
 -- `climb::climb` meets its contract: each period that is tried lies from floor to ceiling, with a loop that shows why no smaller one has a
 -- schedule. It ends because the period rises.
-use mathlib.Core.Path.{_≡_, refl, sym, ap, _∙_}
-use Prim.Native.Nat.{ℕ, suc, _-_, _≤_, _<_}
-use native.Mathlib.Omega.{arith}
+use mathlib.Core.Path.{_≡_, sym, ap, _∙_}
+use Prim.Native.Nat.{suc, _-_}
 use borrow.Author.Needs.{needs}
-use denote.Ref.{now}
 use lib.ListN.{length}
 use mir.Syntax.{w32}
 use mir.Val.{SFits, toZ, ofZ}
 use mir.Facts.{toZ-ofZ}
-use Rattle.paper.specs.Network.{Network}
+use Rattle.whole.proofs.Lin.{lin}
 use Rattle.paper.specs.File.{natural}
-use Rattle.climb.specs.Trial.{Trial, Attempted}
-use Rattle.climb.proofs.Goings.{Going, going-first, going-on, going-up, going-ends, trial-as, left-falls}
+use Rattle.arrows.proofs.Laid.{legal-few}
+use Rattle.climb.proofs.Attempts.{at-least, trial-weighable, trial-starts, trial-concludable}
+use Rattle.climb.proofs.Goings.{Going, begun-trial, begun-lent, going-first, going-ends, going-on, going-up}
 use Rattle.climb.proofs.climb.Statement.{statement}
 use Rattle.climb.proofs.climb.Tie as tie
 
 abbrev Inv-loop : tie.InvT-loop
-Inv-loop h kind number tail head amount₀ base row preds passed a₀ b₀ p₀ ring₀ out₀ begun shown period₀ kept₀ amount a b p ring out period kept =
-    Going h kind number tail head amount₀ amount base row preds passed a b p ring₀ ring out₀ out (toZ w32 begun) (toZ w32 period) shown kept
+Inv-loop h kind number tail head amount₀ base row preds passed a₀ b₀ p₀ ring₀ out₀ period₀ kept₀ amount a b p ring out period kept =
+    Going h kind number tail head amount₀ amount base row preds passed a b p ring₀ ring out₀ out (toZ w32 period₀) (toZ w32 period) kept₀ kept
 
 abbrev μ-loop : tie.MeasureT-loop
-μ-loop h kind number tail head amount₀ base row preds passed a₀ b₀ p₀ ring₀ out₀ begun shown period₀ kept₀ amount a b p ring out period kept =
+μ-loop h kind number tail head amount₀ base row preds passed a₀ b₀ p₀ ring₀ out₀ period₀ kept₀ amount a b p ring out period kept =
     suc (natural (h .ceiling)) - natural (toZ w32 period)
 
--- ---- the places
+-- ---- the places before the loop
 
-abbrev start-at-shared-slice-known2 : (c : tie.After-shared-slice-known2 Inv-loop μ-loop) → tie.Start Inv-loop μ-loop
-start-at-shared-slice-known2 c = c .before .before
+abbrev start-at-shared-slice-known3 : (c : tie.After-shared-slice-known3 Inv-loop μ-loop) → tie.Start Inv-loop μ-loop
+start-at-shared-slice-known3 c = c .before .before .before
 
-abbrev start-at-shared-slice-known5 : (c : tie.After-shared-slice-known5 Inv-loop μ-loop) → tie.Start Inv-loop μ-loop
-start-at-shared-slice-known5 c = start-at-shared-slice-known2 (c .before .before .before)
+abbrev start-at-slice-known : (c : tie.After-slice-known Inv-loop μ-loop) → tie.Start Inv-loop μ-loop
+start-at-slice-known c = start-at-shared-slice-known3 (c .before .before .before)
 
-abbrev start-at-slice-known3 : (c : tie.After-slice-known3 Inv-loop μ-loop) → tie.Start Inv-loop μ-loop
-start-at-slice-known3 c = start-at-shared-slice-known5 (c .before .before .before)
+abbrev start-at-begin-arg : (c : tie.After-begin-arg Inv-loop μ-loop) → tie.Start Inv-loop μ-loop
+start-at-begin-arg c = start-at-slice-known (c .before .before .before)
 
-abbrev slice-known3-at-at-loop : (c : tie.At-loop Inv-loop μ-loop) → tie.After-slice-known3 Inv-loop μ-loop
-slice-known3-at-at-loop c = c .before
+abbrev start-at-begin : (c : tie.After-begin Inv-loop μ-loop) → tie.Start Inv-loop μ-loop
+start-at-begin c = start-at-begin-arg (c .before .before .before)
 
-abbrev start-at-at-loop : (c : tie.At-loop Inv-loop μ-loop) → tie.Start Inv-loop μ-loop
-start-at-at-loop c = start-at-slice-known3 (slice-known3-at-at-loop c)
+abbrev begin-at-slice-known4 : (c : tie.After-slice-known4 Inv-loop μ-loop) → tie.After-begin Inv-loop μ-loop
+begin-at-slice-known4 c = c .before .before .before
 
-abbrev at-loop-at-attempt-arg3 : (c : tie.After-attempt-arg3 Inv-loop μ-loop) → tie.At-loop Inv-loop μ-loop
-at-loop-at-attempt-arg3 c = c .before .before .before
+abbrev begin-at-struct-told : (c : tie.After-struct-told Inv-loop μ-loop) → tie.After-begin Inv-loop μ-loop
+begin-at-struct-told c = begin-at-slice-known4 (c .before .before .before)
 
-abbrev at-loop-at-attempt-arg6 : (c : tie.After-attempt-arg6 Inv-loop μ-loop) → tie.At-loop Inv-loop μ-loop
-at-loop-at-attempt-arg6 c = at-loop-at-attempt-arg3 (c .before .before .before)
+abbrev beginning : (c : tie.At-loop Inv-loop μ-loop) → tie.After-begin Inv-loop μ-loop
+beginning c = begin-at-struct-told (c .before)
 
-abbrev start-at-attempt-arg6 : (c : tie.After-attempt-arg6 Inv-loop μ-loop) → tie.Start Inv-loop μ-loop
-start-at-attempt-arg6 c = start-at-at-loop (at-loop-at-attempt-arg6 c)
+abbrev start : (c : tie.At-loop Inv-loop μ-loop) → tie.Start Inv-loop μ-loop
+start c = start-at-begin (beginning c)
 
-abbrev attempt-arg6-at-attempt : (c : tie.After-attempt Inv-loop μ-loop) → tie.After-attempt-arg6 Inv-loop μ-loop
-attempt-arg6-at-attempt c = c .before
+-- ---- the places of a turn
 
-abbrev start-at-attempt : (c : tie.After-attempt Inv-loop μ-loop) → tie.Start Inv-loop μ-loop
-start-at-attempt c = start-at-attempt-arg6 (attempt-arg6-at-attempt c)
+abbrev turn-at-at-period-arg : (c : tie.After-at-period-arg Inv-loop μ-loop) → tie.At-loop Inv-loop μ-loop
+turn-at-at-period-arg c = c .before .before .before
 
-abbrev attempt-at-b : (c : tie.After-b Inv-loop μ-loop) → tie.After-attempt Inv-loop μ-loop
-attempt-at-b c = c .before .before .before
+abbrev turn-at-at-period : (c : tie.After-at-period Inv-loop μ-loop) → tie.At-loop Inv-loop μ-loop
+turn-at-at-period c = turn-at-at-period-arg (c .before)
 
-abbrev attempt-at-ring : (c : tie.After-ring Inv-loop μ-loop) → tie.After-attempt Inv-loop μ-loop
-attempt-at-ring c = attempt-at-b (c .before .before .before)
+abbrev weighing-at-resume-arg2 : (c : tie.After-resume-arg2 Inv-loop μ-loop) → tie.After-at-period Inv-loop μ-loop
+weighing-at-resume-arg2 c = c .before .before .before
 
-abbrev attempt-at-slice-known6 : (c : tie.After-slice-known6 Inv-loop μ-loop) → tie.After-attempt Inv-loop μ-loop
-attempt-at-slice-known6 c = attempt-at-ring (c .before .before .before)
+abbrev weighing-at-resume-arg5 : (c : tie.After-resume-arg5 Inv-loop μ-loop) → tie.After-at-period Inv-loop μ-loop
+weighing-at-resume-arg5 c = weighing-at-resume-arg2 (c .before .before .before)
 
-abbrev start-at-slice-known6 : (c : tie.After-slice-known6 Inv-loop μ-loop) → tie.Start Inv-loop μ-loop
-start-at-slice-known6 c = start-at-attempt (attempt-at-slice-known6 c)
+abbrev weighing : (c : tie.After-resume Inv-loop μ-loop) → tie.After-at-period Inv-loop μ-loop
+weighing c = weighing-at-resume-arg5 (c .before .before)
 
-abbrev slice-known6-at-at-match-keys1 : (c : tie.At-match-keys1 Inv-loop μ-loop) → tie.After-slice-known6 Inv-loop μ-loop
-slice-known6-at-at-match-keys1 c = c .before
+abbrev turn : (c : tie.After-resume Inv-loop μ-loop) → tie.At-loop Inv-loop μ-loop
+turn c = turn-at-at-period (weighing c)
 
-abbrev start-at-at-match-keys1 : (c : tie.At-match-keys1 Inv-loop μ-loop) → tie.Start Inv-loop μ-loop
-start-at-at-match-keys1 c = start-at-slice-known6 (slice-known6-at-at-match-keys1 c)
+abbrev relaxing-at-ring2 : (c : tie.After-ring2 Inv-loop μ-loop) → tie.After-resume Inv-loop μ-loop
+relaxing-at-ring2 c = c .before .before .before
 
-abbrev at-match-keys1-at-t : (c : tie.After-t Inv-loop μ-loop) → tie.At-match-keys1 Inv-loop μ-loop
-at-match-keys1-at-t c = c .before
+abbrev ring2-at-last : (c : tie.After-last Inv-loop μ-loop) → tie.After-ring2 Inv-loop μ-loop
+ring2-at-last c = c .before .before .before
 
-abbrev start-at-t : (c : tie.After-t Inv-loop μ-loop) → tie.Start Inv-loop μ-loop
-start-at-t c = start-at-at-match-keys1 (at-match-keys1-at-t c)
+abbrev ring2-at-conclude-arg3 : (c : tie.After-conclude-arg3 Inv-loop μ-loop) → tie.After-ring2 Inv-loop μ-loop
+ring2-at-conclude-arg3 c = ring2-at-last (c .before .before)
 
-abbrev t-at-known-told : (c : tie.After-known-told Inv-loop μ-loop) → tie.After-t Inv-loop μ-loop
-t-at-known-told c = c .before
+abbrev relaxing : (c : tie.After-conclude Inv-loop μ-loop) → tie.After-resume Inv-loop μ-loop
+relaxing c = relaxing-at-ring2 (ring2-at-conclude-arg3 (c .before))
 
-abbrev start-at-known-told : (c : tie.After-known-told Inv-loop μ-loop) → tie.Start Inv-loop μ-loop
-start-at-known-told c = start-at-t (t-at-known-told c)
+abbrev concluding-at-out : (c : tie.After-out Inv-loop μ-loop) → tie.After-conclude Inv-loop μ-loop
+concluding-at-out c = c .before .before .before
 
-abbrev slice-known6-at-at-match-keys2 : (c : tie.At-match-keys2 Inv-loop μ-loop) → tie.After-slice-known6 Inv-loop μ-loop
-slice-known6-at-at-match-keys2 c = c .before
+abbrev concluding : (c : tie.After-slice-known8 Inv-loop μ-loop) → tie.After-conclude Inv-loop μ-loop
+concluding c = concluding-at-out (c .before)
 
-abbrev start-at-at-match-keys2 : (c : tie.At-match-keys2 Inv-loop μ-loop) → tie.Start Inv-loop μ-loop
-start-at-at-match-keys2 c = start-at-slice-known6 (slice-known6-at-at-match-keys2 c)
+abbrev last-of : (c : tie.After-known-told Inv-loop μ-loop) → tie.After-slice-known8 Inv-loop μ-loop
+last-of c = c .before .before .before
 
-abbrev at-match-keys2-at-t2 : (c : tie.After-t2 Inv-loop μ-loop) → tie.At-match-keys2 Inv-loop μ-loop
-at-match-keys2-at-t2 c = c .before
+abbrev next-of : (c : tie.After-known-told2 Inv-loop μ-loop) → tie.After-slice-known8 Inv-loop μ-loop
+next-of c = c .before .before .before
 
-abbrev start-at-t2 : (c : tie.After-t2 Inv-loop μ-loop) → tie.Start Inv-loop μ-loop
-start-at-t2 c = start-at-at-match-keys2 (at-match-keys2-at-t2 c)
+-- ---- what is known at them
 
-abbrev t2-at-known-told2 : (c : tie.After-known-told2 Inv-loop μ-loop) → tie.After-t2 Inv-loop μ-loop
-t2-at-known-told2 c = c .before
+begun-same : (c : tie.After-begin Inv-loop μ-loop) → toZ w32 (ofZ w32 (c .begin .result .period)) ≡ c .begin .result .period
+begun-same c = let f : SFits w32 (c .begin .result .period) = search needs in toZ-ofZ f
 
-abbrev start-at-known-told2 : (c : tie.After-known-told2 Inv-loop μ-loop) → tie.Start Inv-loop μ-loop
-start-at-known-told2 c = start-at-t2 (t2-at-known-told2 c)
-
-abbrev attempt-at-known-told : (c : tie.After-known-told Inv-loop μ-loop) → tie.After-attempt Inv-loop μ-loop
-attempt-at-known-told c = attempt-at-slice-known6 (slice-known6-at-at-match-keys1 (at-match-keys1-at-t (t-at-known-told c)))
-
-abbrev attempt-at-known-told2 : (c : tie.After-known-told2 Inv-loop μ-loop) → tie.After-attempt Inv-loop μ-loop
-attempt-at-known-told2 c = attempt-at-slice-known6 (slice-known6-at-at-match-keys2 (at-match-keys2-at-t2 (t2-at-known-told2 c)))
-
-abbrev at-loop-at-known-told : (c : tie.After-known-told Inv-loop μ-loop) → tie.At-loop Inv-loop μ-loop
-at-loop-at-known-told c = at-loop-at-attempt-arg6 (attempt-arg6-at-attempt (attempt-at-slice-known6 (slice-known6-at-at-match-keys1 (at-match-keys1-at-t (t-at-known-told c)))))
-
-abbrev at-loop-at-known-told2 : (c : tie.After-known-told2 Inv-loop μ-loop) → tie.At-loop Inv-loop μ-loop
-at-loop-at-known-told2 c = at-loop-at-attempt-arg6 (attempt-arg6-at-attempt (attempt-at-slice-known6 (slice-known6-at-at-match-keys2 (at-match-keys2-at-t2 (t2-at-known-told2 c)))))
-
--- ---- a network that the lists hold
-held : (k : tie.Start Inv-loop μ-loop) → Trial (k .args .h) (now (k .args .kind)) (now (k .args .number)) (now (k .args .tail)) (now (k .args .head))
-    (now (k .args .amount)) (now (k .args .base)) (toZ w32 (ofZ w32 (k .args .begun))) (now (k .args .ring)) (k .args .shown) (k .pre .0 .0)
-held k = trial-as _ _ _ _ _ _ _ _ _ _ _ _ (toZ-ofZ (k .fits .begun)) (k .pre .0 .1)
+ceiling-same : (k : tie.Start Inv-loop μ-loop) → toZ w32 (ofZ w32 (k .args .h .ceiling)) ≡ k .args .h .ceiling
+ceiling-same k =
+    let e = k .pre .known .held .header .ceiling in
+    let top = k .pre .known .held .legal .ceiling-to in
+    let f : SFits w32 (k .args .h .ceiling) = omega lin in
+    toZ-ofZ f
 
 -- the next period, as the number in hand
-next-same : (c : tie.After-known-told2 Inv-loop μ-loop) → toZ w32 (ofZ w32 (t2-at-known-told2 c .t2 .given .0 .0)) ≡ t2-at-known-told2 c .t2 .given .0 .0
-next-same c = let f : SFits w32 (t2-at-known-told2 c .t2 .given .0 .0) = search needs in toZ-ofZ f
+next-same : (c : tie.After-known-told2 Inv-loop μ-loop) → toZ w32 (ofZ w32 (c .before .above .given .0 .0)) ≡ c .before .above .given .0 .0
+next-same c = let f : SFits w32 (c .before .above .given .0 .0) = search needs in toZ-ofZ f
 
 -- ---- the answers
 
+begin-requires : tie.Need-begin-requires Inv-loop μ-loop
+begin-requires c κs =
+    let k = start-at-begin-arg (c .before .before) .pre in
+    record { network = k .network; numbers = _; known = k .known; noted = k .lent .noted; loop = k .lent .loop }
+
 loop-holds : tie.Need-loop-holds Inv-loop μ-loop
 loop-holds c =
-    let k = start-at-slice-known3 c in
-    going-first _ _ _ _ _ _ _ _ _ _ _ _ _ _ _ _ _ _ refl (k .pre .1)
+    let b = begin-at-struct-told c in
+    let r = c .before .before in
+    going-first (begun-lent (b .begin .ensures) (r .before .before .preds .given) (r .ring .given) (start-at-begin b .pre .lent))
 
-attempt-requires : tie.Need-attempt-requires Inv-loop μ-loop
-attempt-requires c κs =
-    let k = start-at-attempt-arg6 c in
-    let g = at-loop-at-attempt-arg6 c .loop .inv in
-    ((k .pre .0 .0, g .each (k .pre .0 .0) (held k)), g .lent)
+all-requires : tie.Need-all-requires Inv-loop μ-loop
+all-requires c κs = let k = start (c .before) .pre in legal-few (k .network) (k .known .held .legal) _ _ (k .known .held .header .registers) (k .known .held .header .paths)
 
-same-length : tie.Need-same-length Inv-loop μ-loop
-same-length c = let k = attempt-at-known-told c .attempt .kept in let l = at-loop-at-known-told c .loop .inv .long-amounts in omega arith
+at-period-requires : tie.Need-at-period-requires Inv-loop μ-loop
+at-period-requires c κs =
+    let t = turn-at-at-period-arg c in
+    let b = beginning t in
+    let k = start-at-begin b .pre in
+    trial-weighable (t .loop .inv .each (k .network) (begun-trial (b .begin .ensures) (k .known) _ (begun-same b)))
 
-same-length-2 : tie.Need-same-length-2 Inv-loop μ-loop
-same-length-2 c = let k = attempt-at-known-told c .attempt .kept in let l = at-loop-at-known-told c .loop .inv .lent .here in let f = start-at-known-told c .pre .1 .here in omega arith
+resume-requires : tie.Need-resume-requires Inv-loop μ-loop
+resume-requires c κs =
+    let w = weighing-at-resume-arg5 (c .before) in
+    let t = turn-at-at-period w in
+    let b = beginning t in
+    let k = start-at-begin b .pre in
+    let l = t .loop .inv .lent in
+    let tries = t .loop .inv .each (k .network) (begun-trial (b .begin .ensures) (k .known) _ (begun-same b)) in
+    record {
+      starts = trial-starts tries (w .at-period .ensures) (w .before .before .all .ensures) (l .resumable) (l .there);
+      row-long = l .here;
+      preds-long = l .noted;
+      room = l .loop;
+    }
 
-same-length-3 : tie.Need-same-length-3 Inv-loop μ-loop
-same-length-3 c = let k = attempt-at-known-told c .attempt .kept in let l = at-loop-at-known-told c .loop .inv .lent .there in let f = start-at-known-told c .pre .1 .there in omega arith
+conclude-requires : tie.Need-conclude-requires Inv-loop μ-loop
+conclude-requires c κs =
+    let s = ring2-at-conclude-arg3 c in
+    let r = relaxing-at-ring2 s in
+    let w = weighing r in
+    let t = turn r in
+    let b = beginning t in
+    let k = start-at-begin b .pre in
+    trial-concludable (t .loop .inv .each (k .network) (begun-trial (b .begin .ensures) (k .known) _ (begun-same b))) (w .at-period .ensures) (w .before .before .all .ensures)
+    (r .resume .ensures) (at-least (s .ring2 .given) (t .loop .inv .lent .loop)) _ (t .loop .inv .lent .output)
 
 same-length-4 : tie.Need-same-length-4 Inv-loop μ-loop
-same-length-4 c = let k = attempt-at-known-told c .attempt .kept in let l = at-loop-at-known-told c .loop .inv .lent .noted in let f = start-at-known-told c .pre .1 .noted in omega arith
+same-length-4 c =
+    let d = concluding (last-of c) in
+    let t = turn (relaxing d) in
+    ring2-at-conclude-arg3 (d .before) .before .before .preds2 .given ∙ t .loop .inv .lent .noted ∙ sym (start t .pre .lent .noted)
 
 same-length-5 : tie.Need-same-length-5 Inv-loop μ-loop
-same-length-5 c = let k = attempt-at-known-told c .attempt .kept in let l = at-loop-at-known-told c .loop .inv .long-ring in omega arith
-
-same-length-6 : tie.Need-same-length-6 Inv-loop μ-loop
-same-length-6 c = let k = attempt-at-known-told c .attempt .kept in let l = ap length (at-loop-at-known-told c .loop .inv .unwritten) in omega arith
+same-length-5 c =
+    let d = concluding (last-of c) in
+    let t = turn (relaxing d) in
+    ring2-at-conclude-arg3 (d .before) .ring2 .given ∙ t .loop .inv .long-ring ∙ t .before .before .before .ring .given
 
 returns : tie.Need-returns Inv-loop μ-loop
 returns c =
-    let k = start-at-known-told c in
-    let kept = attempt-at-known-told c .attempt .kept in
-    λ M t.
-    going-ends _ _ _ _ _ _ _ _ _ _ _ _ _ _ _ _ _ _ _ _ _ _ (at-loop-at-known-told c .loop .inv) _ _ _ _ _ (t-at-known-told c .t .given .1) (attempt-at-known-told c .attempt .ensures) M
-    (trial-as _ _ _ _ _ _ _ _ _ _ _ M (toZ-ofZ (k .fits .begun)) t)
+    let d = concluding (last-of c) in
+    let r = relaxing d in
+    let w = weighing r in
+    let t = turn r in
+    let b = beginning t in
+    λ M known.
+    going-ends (t .loop .inv) (w .at-period .ensures) (w .before .before .all .ensures) (r .resume .ensures)
+    (at-least (ring2-at-conclude-arg3 (d .before) .ring2 .given) (t .loop .inv .lent .loop)) (ceiling-same (start t)) _ _
+    (d .conclude .ensures) _ (c .before .o .given .1) M (begun-trial (b .begin .ensures) known _ (begun-same b))
 
 loop-less : tie.Need-loop-less Inv-loop μ-loop
 loop-less c =
-    let k = start-at-known-told2 c in
-    left-falls _ _ _
-    (going-up _ _ _ _ _ _ _ _ _ _ _ _ _ _ _ _ _ _ _ _ _ _ (at-loop-at-known-told2 c .loop .inv) _ _ _ _ _ _ _ (next-same c)
-    (t2-at-known-told2 c .t2 .given .1) (attempt-at-known-told2 c .attempt .ensures) (k .pre .0 .0) (held k))
+    let d = concluding (next-of c) in
+    let r = relaxing d in
+    let w = weighing r in
+    let t = turn r in
+    let b = beginning t in
+    let k = start-at-begin b .pre in
+    going-up (t .loop .inv) (w .at-period .ensures) (w .before .before .all .ensures) (r .resume .ensures)
+    (at-least (ring2-at-conclude-arg3 (d .before) .ring2 .given) (t .loop .inv .lent .loop)) (ceiling-same (start t)) _ _
+    (d .conclude .ensures) _ _ _ (next-same c) (c .before .above .given .1) (k .network) (begun-trial (b .begin .ensures) (k .known) _ (begun-same b))
 
 loop-again : tie.Need-loop-again Inv-loop μ-loop
 loop-again c =
-    let k = start-at-known-told2 c in
-    let kept = attempt-at-known-told2 c .attempt .kept .1 .1 .1 .1 .1 .1 .1 .1 .1 .1 in
-    going-on _ _ _ _ _ _ _ _ _ _ _ _ _ _ _ _ _ _ _ _ _ _ (at-loop-at-known-told2 c .loop .inv) _ _ _ _ _ _ _ (next-same c)
-    (t2-at-known-told2 c .t2 .given .1) (attempt-at-known-told2 c .attempt .ensures) (k .pre .0 .0) (held k) _ _ _ (kept .0) (kept .1 .0) (kept .1 .1 .0) (kept .1 .1 .1 .0)
+    let d = concluding (next-of c) in
+    let r = relaxing d in
+    let w = weighing r in
+    let t = turn r in
+    let b = beginning t in
+    let k = start-at-begin b .pre in
+    let s = ring2-at-conclude-arg3 (d .before) in
+    going-on (t .loop .inv) (w .at-period .ensures) (w .before .before .all .ensures) (r .resume .ensures)
+    (at-least (ring2-at-conclude-arg3 (d .before) .ring2 .given) (t .loop .inv .lent .loop)) (ceiling-same (start t)) _ _
+    (d .conclude .ensures) _ _ _ (next-same c) (c .before .above .given .1) (k .network) (begun-trial (b .begin .ensures) (k .known) _ (begun-same b)) _ _
+    (next-of c .before .before .before .a .given .1) (next-of c .before .before .b .given .1) (s .before .before .preds2 .given) (s .ring2 .given)
 
 pub climb-spec : {M : Type 1} → statement M
 climb-spec =
@@ -184,15 +214,19 @@ climb-spec =
     (tie.spec
     Inv-loop
     μ-loop
+    begin-requires
     loop-holds
-    attempt-requires
+    all-requires
+    at-period-requires
+    resume-requires
+    conclude-requires
     (λ c. search needs)
-    same-length
-    same-length-2
-    same-length-3
+    (λ c. let r = relaxing (concluding (last-of c)) in weighing r .at-period .ensures .long ∙ turn r .loop .inv .long-amounts ∙ beginning (turn r) .begin .ensures .weighed .long)
+    (λ c. let t = turn (relaxing (concluding (last-of c))) in last-of c .before .before .before .a .given .1 ∙ t .loop .inv .lent .here ∙ sym (start t .pre .lent .here))
+    (λ c. let t = turn (relaxing (concluding (last-of c))) in last-of c .before .before .b .given .1 ∙ t .loop .inv .lent .there ∙ sym (start t .pre .lent .there))
     same-length-4
     same-length-5
-    same-length-6
+    (λ c. let t = turn (relaxing (concluding (last-of c))) in last-of c .before .out .given ∙ ap length (t .loop .inv .unwritten))
     returns
     (λ c. search needs)
     loop-less

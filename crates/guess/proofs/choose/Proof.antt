@@ -12,10 +12,10 @@ use Rattle.guess.proofs.choose.Statement.{statement}
 use Rattle.guess.proofs.choose.Tie as tie
 
 abbrev Inv-loop : tie.InvT-loop
-Inv-loop tail head amount n m from p₀ e₀ p e = Chosen (arrows n m tail head amount) p
+Inv-loop tail head amount n count from preds₀ e₀ preds e = Chosen (arrows n count tail head amount) preds
 
 abbrev μ-loop : tie.MeasureT-loop
-μ-loop tail head amount n m from p₀ e₀ p e = m - e
+μ-loop tail head amount n count from preds₀ e₀ preds e = count - e
 
 -- ---- places: the turn that a place of the loop's body belongs to, and the function's entry
 
@@ -36,26 +36,26 @@ abbrev reach : (c : tie.In-loop Inv-loop μ-loop) → ℕ
 reach c = getD (now (start (c .before) .args .head)) (c .before .loop .e) 0
 
 reached : (c : tie.In-loop Inv-loop μ-loop) → reach c < start (c .before) .args .n
-reached c = start (c .before) .pre .0 .sound .reaches _ (c .loop-test .taken)
+reached c = start (c .before) .pre .shape .sound .reaches _ (c .loop-test .taken)
 
 -- and its place fits two bytes
 named : (c : tie.In-loop Inv-loop μ-loop) → c .before .loop .e < 65535
-named c = omega (arith, start (c .before) .pre .0 .named, c .loop-test .taken)
+named c = omega (arith, start (c .before) .pre .shape .named, c .loop-test .taken)
 
 loop-holds : tie.Need-loop-holds Inv-loop μ-loop
-loop-holds c = c .before .before .before .pre .1
+loop-holds c = c .before .before .before .pre .chosen
 
 mul-v : tie.Need-mul-v Inv-loop μ-loop
 mul-v c = omega (arith, named c)
 
 shared-slice-read-v : tie.Need-shared-slice-read-v Inv-loop μ-loop
-shared-slice-read-v c = omega (arith, start (c .before .before) .pre .0 .heads-long, c .before .loop-test .taken)
+shared-slice-read-v c = omega (arith, start (c .before .before) .pre .shape .heads-long, c .before .loop-test .taken)
 
 cast-v : tie.Need-cast-v Inv-loop μ-loop
 cast-v c = omega (arith, c .shared-slice-known3 .given (c .before .before .loop .e))
 
 mul-old : tie.Need-mul-old Inv-loop μ-loop
-mul-old c = omega (arith, start (c .before .before) .pre .0 .few, reached (c .before))
+mul-old c = omega (arith, start (c .before .before) .pre .shape .few, reached (c .before))
 
 slice-read-old : tie.Need-slice-read-old Inv-loop μ-loop
 slice-read-old c = omega (arith, turn-old c .before .loop .inv .long, reached (turn-old c))
@@ -64,16 +64,16 @@ cast-old : tie.Need-cast-old Inv-loop μ-loop
 cast-old c = omega (arith, c .slice-known2 .given (reach (turn-old c)))
 
 is-heavier-requires : tie.Need-is-heavier-requires Inv-loop μ-loop
-is-heavier-requires c κs = (start (turn-old c .before) .pre .0 .amounts-long, turn-old c .loop-test .taken)
+is-heavier-requires c κs = (start (turn-old c .before) .pre .shape .amounts-long, turn-old c .loop-test .taken)
 
-cast-p : tie.Need-cast-p Inv-loop μ-loop
-cast-p c = omega (arith, named (turn (c .before)))
+cast-preds : tie.Need-cast-preds Inv-loop μ-loop
+cast-preds c = omega (arith, named (turn (c .before)))
 
-mul-p : tie.Need-mul-p Inv-loop μ-loop
-mul-p c = omega (arith, start (turn (c .before) .before) .pre .0 .few, reached (turn (c .before)))
+mul-preds : tie.Need-mul-preds Inv-loop μ-loop
+mul-preds c = omega (arith, start (turn (c .before) .before) .pre .shape .few, reached (turn (c .before)))
 
-slice-write-p : tie.Need-slice-write-p Inv-loop μ-loop
-slice-write-p c = omega (arith, turn (c .before) .before .loop .inv .long, reached (turn (c .before)))
+slice-write-preds : tie.Need-slice-write-preds Inv-loop μ-loop
+slice-write-preds c = omega (arith, turn (c .before) .before .loop .inv .long, reached (turn (c .before)))
 
 add-e : tie.Need-add-e Inv-loop μ-loop
 add-e c = omega (arith, named (turn (c .before)))
@@ -88,7 +88,7 @@ loop-again c =
     ⊎-elim (λ w. rw (w .1) (chosen-more _ _ _ (reached t) i)) (λ w. rw (w .1) i) (c .if1 .came)
 
 same-length : tie.Need-same-length Inv-loop μ-loop
-same-length c = c .before .loop .inv .long ∙ sym (start (c .before) .pre .1 .long)
+same-length c = c .before .loop .inv .long ∙ sym (start (c .before) .pre .chosen .long)
 
 returns : tie.Need-returns Inv-loop μ-loop
 returns c = c .before .loop .inv
@@ -107,9 +107,9 @@ choose-spec =
     slice-read-old
     cast-old
     is-heavier-requires
-    cast-p
-    mul-p
-    slice-write-p
+    cast-preds
+    mul-preds
+    slice-write-preds
     add-e
     loop-less
     loop-again

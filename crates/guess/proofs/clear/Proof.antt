@@ -8,19 +8,19 @@ use Rattle.guess.proofs.clear.Statement.{statement}
 use Rattle.guess.proofs.clear.Tie as tie
 
 abbrev Inv-loop : tie.InvT-loop
-Inv-loop p₀ n v₀ p v = ClearedTo n p v
+Inv-loop preds₀ n v₀ preds v = ClearedTo n preds v
 
 abbrev μ-loop : tie.MeasureT-loop
-μ-loop p₀ n v₀ p v = n - v
+μ-loop preds₀ n v₀ preds v = n - v
 
 loop-holds : tie.Need-loop-holds Inv-loop μ-loop
 loop-holds c = cleared-none _ _ (c .pre)
 
-mul-p : tie.Need-mul-p Inv-loop μ-loop
-mul-p c = search needs
+mul-preds : tie.Need-mul-preds Inv-loop μ-loop
+mul-preds c = search needs
 
-slice-write-p : tie.Need-slice-write-p Inv-loop μ-loop
-slice-write-p c = let l = c .before .loop .inv .long in omega (arith, c .loop-test .taken)
+slice-write-preds : tie.Need-slice-write-preds Inv-loop μ-loop
+slice-write-preds c = let l = c .before .loop .inv .long in omega (arith, c .loop-test .taken)
 
 add-v : tie.Need-add-v Inv-loop μ-loop
 add-v c = search needs
@@ -44,8 +44,8 @@ clear-spec =
     Inv-loop
     μ-loop
     loop-holds
-    mul-p
-    slice-write-p
+    mul-preds
+    slice-write-preds
     add-v
     loop-less
     loop-again

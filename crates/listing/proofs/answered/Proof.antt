@@ -104,77 +104,87 @@ start-at-slice-known4 c = start-at-put-loop-arg (c .before .before .before)
 -- ---- the answers
 
 -- the counts are those of the answer
-n-is : (c : tie.After-count) → c .count .result ≡ (start-at-count c) .pre .0 .n
-n-is c = same-count _ _ _ (c .count .ensures) ((start-at-count c) .pre .0 .latencies-are)
+n-is : (c : tie.After-count) → c .count .result ≡ (start-at-count c) .pre .counted .n
+n-is c = same-count _ _ _ (c .count .ensures) ((start-at-count c) .pre .counted .latencies-are)
 
-k-is : (c : tie.After-count2) → c .count2 .result ≡ (start-at-count2 c) .pre .0 .k
-k-is c = same-count _ _ _ (c .count2 .ensures) ((start-at-count2 c) .pre .0 .entries-are)
+k-is : (c : tie.After-count2) → c .count2 .result ≡ (start-at-count2 c) .pre .counted .k
+k-is c = same-count _ _ _ (c .count2 .ensures) ((start-at-count2 c) .pre .counted .entries-are)
 
 -- the period is read back as itself, and so is the one below it
 number-fits : (c : tie.After-number) → SFits w32 (c .number .result)
 number-fits c = search needs
 
 less-fits : (c : tie.After-number) → SFits w32 (c .number .result -ℤ pos 1)
-less-fits c = less-one-fits _ _ (number-fits c) (c .number .ensures ∙ c .before .before .before .pre .0 .period-is)
+less-fits c = less-one-fits _ _ (number-fits c) (c .number .ensures ∙ c .before .before .before .pre .counted .period-is)
 
 less-back : (c : tie.After-number)
     → toZ w32 (ofZ w32 (toZ w32 (ofZ w32 (c .number .result)) -ℤ pos 1)) ≡ c .number .result -ℤ pos 1
 less-back c = rw (toZ-ofZ (number-fits c)) (toZ-ofZ (less-fits c))
 
 count-requires : tie.Need-count-requires
-count-requires c κs = let f = c .before .before .before .pre .0 in (omega (arith, f .within), not-negative _ _ (f .latencies-are))
+count-requires c κs =
+    let f = c .before .before .before .pre .counted in
+    record { stands = omega (arith, f .within); from-zero = not-negative _ _ (f .latencies-are) }
 
 count-requires-2 : tie.Need-count-requires-2
-count-requires-2 c κs = let f = (start-at-count c) .pre .0 in (omega (arith, f .within), not-negative _ _ (f .entries-are))
+count-requires-2 c κs =
+    let f = (start-at-count c) .pre .counted in
+    record { stands = omega (arith, f .within); from-zero = not-negative _ _ (f .entries-are) }
 
 put-latencies-requires : tie.Need-put-latencies-requires
 put-latencies-requires c κs =
     let s = start-at-put-latencies-arg c in
-    let f = s .pre .0 in
+    let f = s .pre .counted in
     let e = n-is (count-at-put-latencies-arg c) in
     let w = c .before .before .before .put-line .ensures in
-    let l = long (w .0) in
-    (omega (arith, f .few-latencies), omega (arith, f .within), omega (arith, f .few-latencies, w .1, s .pre .1))
+    let l = long (w .written) in
+    record {
+      few = omega (arith, f .few-latencies);
+      stand = omega (arith, f .within);
+      room = omega (arith, f .few-latencies, w .by, s .pre .room);
+    }
 
 returns : tie.Need-returns
 returns c =
     let s = start-at-then1 c in
-    let f = s .pre .0 in
+    let f = s .pre .counted in
     let number = number-at-then1 c in
     let count = count-at-then1 c in
     let count2 = count2-at-then1 c in
     let w = (put-line-at-then1 c) .put-line .ensures in
     let v = c .before .before .before .put-latencies .ensures in
-    let e = n-is count in (
-      without-loop _ _ _ _ _ _ _ _ _ (count .count .ensures) (count2 .count2 .ensures) (number .number .ensures)
-          (named (w .0) (ap (line periodWord) (toZ-ofZ (number-fits number)))) (v .0) (c .if1 .taken),
-      omega (arith, f .few-latencies, w .1, v .1),
-    )
+    let e = n-is count in
+    record {
+      written =
+          without-loop _ _ _ _ _ _ _ _ _ (count .count .ensures) (count2 .count2 .ensures) (number .number .ensures)
+          (named (w .written) (ap (line periodWord) (toZ-ofZ (number-fits number)))) (v .written) (c .if1 .taken);
+      by = omega (arith, f .few-latencies, w .by, v .by);
+    }
 
 sub-put-loop : tie.Need-sub-put-loop
 sub-put-loop c = let number = number-at-put-loop-arg c in rw (toZ-ofZ (number-fits number)) (less-fits number)
 
 mul-put-loop : tie.Need-mul-put-loop
-mul-put-loop c = let e = n-is (count-at-put-loop-arg c) in omega (arith, (start-at-put-loop-arg c) .pre .0 .few-latencies)
+mul-put-loop c = let e = n-is (count-at-put-loop-arg c) in omega (arith, (start-at-put-loop-arg c) .pre .counted .few-latencies)
 
 add-put-loop : tie.Need-add-put-loop
-add-put-loop c = let e = n-is (count-at-put-loop-arg c) in omega (arith, (start-at-put-loop-arg c) .pre .0 .few-latencies)
+add-put-loop c = let e = n-is (count-at-put-loop-arg c) in omega (arith, (start-at-put-loop-arg c) .pre .counted .few-latencies)
 
 put-loop-requires : tie.Need-put-loop-requires
 put-loop-requires c κs =
     let s = start-at-put-loop-arg c in
-    let f = s .pre .0 in
+    let f = s .pre .counted in
     let e = n-is (count-at-put-loop-arg c) in
     let d = k-is (count2-at-put-loop-arg c) in
     let w = (put-line-at-put-loop-arg c) .put-line .ensures in
     let v = (put-latencies-at-put-loop-arg c) .put-latencies .ensures in
-    let l = long (v .0) ∙ long (w .0) in
-    (omega (arith, f .within), omega (arith, f .few-latencies, f .few-entries, w .1, v .1, s .pre .1))
+    let l = long (v .written) ∙ long (w .written) in
+    record { stand = omega (arith, f .within); room = omega (arith, f .few-latencies, f .few-entries, w .by, v .by, s .pre .room) }
 
 returns-2 : tie.Need-returns-2
 returns-2 c =
     let s = start-at-slice-known4 c in
-    let f = s .pre .0 in
+    let f = s .pre .counted in
     let number = number-at-slice-known4 c in
     let count = count-at-slice-known4 c in
     let count2 = count2-at-slice-known4 c in
@@ -183,11 +193,14 @@ returns-2 c =
     let u = c .before .before .put-loop .ensures in
     let e = n-is count in
     let d = k-is count2 in
-    let r = toZ-ofZ (number-fits number) in (
-      with-loop _ _ _ _ _ _ _ _ _ (count .count .ensures) (count2 .count2 .ensures) (number .number .ensures)
-          (named (w .0) (ap (line periodWord) r)) (v .0) ((else1-at-slice-known4 c) .if1 .left) _ _ _ (less-back number) (u .0),
-      omega (arith, f .few-latencies, f .few-entries, w .1, v .1, u .1),
-    )
+    let r = toZ-ofZ (number-fits number) in
+    record {
+      written =
+          with-loop _ _ _ _ _ _ _ _ _ (count .count .ensures) (count2 .count2 .ensures) (number .number .ensures)
+          (named (w .written) (ap (line periodWord) r)) (v .written) ((else1-at-slice-known4 c) .if1 .left) _ _ _ (less-back number)
+          (u .written);
+      by = omega (arith, f .few-latencies, f .few-entries, w .by, v .by, u .by);
+    }
 
 pub answered-spec : {M : Type 1} → statement M
 answered-spec =

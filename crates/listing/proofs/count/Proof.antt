@@ -11,7 +11,7 @@ use Rattle.listing.proofs.count.Statement.{statement}
 use Rattle.listing.proofs.count.Tie as tie
 
 from-zero : (c : tie.After-number) → pos 0 ≤ℤ c .number .result
-from-zero c = subst (λ z. pos 0 ≤ℤ z) (sym (c .number .ensures)) (c .before .before .pre .1)
+from-zero c = subst (λ z. pos 0 ≤ℤ z) (sym (c .number .ensures)) (c .before .before .pre .from-zero)
 
 cast-result : tie.Need-cast-result
 cast-result c =

@@ -46,41 +46,11 @@ start-at-put-entry-arg c = (at-loop-at-put-entry-arg c) .before .before .before
 loop-holds : tie.Need-loop-holds Inv-loop μ-loop
 loop-holds c = lines-none _ _ _ _ (entry-none _ _)
 
-mul-number : tie.Need-mul-number Inv-loop μ-loop
-mul-number c = omega arith
-
-add-number : tie.Need-add-number Inv-loop μ-loop
-add-number c = omega arith
-
-add-number-2 : tie.Need-add-number-2 Inv-loop μ-loop
-add-number-2 c = omega arith
-
-number-requires : tie.Need-number-requires Inv-loop μ-loop
-number-requires c κs = omega arith
-
-mul-number-2 : tie.Need-mul-number-2 Inv-loop μ-loop
-mul-number-2 c = omega arith
-
-add-number-3 : tie.Need-add-number-3 Inv-loop μ-loop
-add-number-3 c = omega arith
-
-add-number-4 : tie.Need-add-number-4 Inv-loop μ-loop
-add-number-4 c = omega arith
-
-number-requires-2 : tie.Need-number-requires-2 Inv-loop μ-loop
-number-requires-2 c κs = omega arith
-
 put-entry-requires : tie.Need-put-entry-requires Inv-loop μ-loop
 put-entry-requires c κs =
     let v = (at-loop-at-put-entry-arg c) .loop .inv in
     let s = start-at-put-entry-arg c in
-    omega (arith, v .few, v .same, v .within, s .pre .1)
-
-add-j : tie.Need-add-j Inv-loop μ-loop
-add-j c = omega arith
-
-loop-less : tie.Need-loop-less Inv-loop μ-loop
-loop-less c = omega arith
+    omega (arith, v .few, v .same, v .within, s .pre .room)
 
 loop-again : tie.Need-loop-again Inv-loop μ-loop
 loop-again c =
@@ -91,7 +61,10 @@ loop-again c =
     let g : SFits w32 (number .number2 .result) = search needs in
     let w = c .before .before .put-entry .ensures in
     lines-more _ _ _ _ _ _ _ _ _ _ (turn .before .loop .inv) (turn .loop-test .taken) (entry-more _ _ _)
-    (named (w .0) (line-is (toZ-ofZ f ∙ kind .number .ensures) (toZ-ofZ g ∙ number .number2 .ensures))) (w .1)
+    (record {
+      written = named (w .written) (line-is (toZ-ofZ f ∙ kind .number .ensures) (toZ-ofZ g ∙ number .number2 .ensures));
+      by = w .by;
+    })
 
 same-length : tie.Need-same-length Inv-loop μ-loop
 same-length c = c .before .loop .inv .same
@@ -106,17 +79,15 @@ put-entries-spec =
     Inv-loop
     μ-loop
     loop-holds
-    mul-number
-    add-number
-    add-number-2
-    number-requires
-    mul-number-2
-    add-number-3
-    add-number-4
-    number-requires-2
+    (λ c. omega arith)
+    (λ c. omega arith)
+    (λ c. omega arith)
+    (λ c κs. omega arith)
+    (λ c. omega arith)
+    (λ c κs. omega arith)
     put-entry-requires
-    add-j
-    loop-less
+    (λ c. omega arith)
+    (λ c. omega arith)
     loop-again
     same-length
     returns)

@@ -40,29 +40,11 @@ start-at-put-latency-arg c = start-at-at-loop (c .before .before .before)
 loop-holds : tie.Need-loop-holds Inv-loop μ-loop
 loop-holds c = lines-none _ _ _ _ (latency-none _)
 
-mul-number : tie.Need-mul-number Inv-loop μ-loop
-mul-number c = omega arith
-
-add-number : tie.Need-add-number Inv-loop μ-loop
-add-number c = omega arith
-
-add-number-2 : tie.Need-add-number-2 Inv-loop μ-loop
-add-number-2 c = omega arith
-
-number-requires : tie.Need-number-requires Inv-loop μ-loop
-number-requires c κs = omega arith
-
 put-latency-requires : tie.Need-put-latency-requires Inv-loop μ-loop
 put-latency-requires c κs =
     let v = c .before .before .before .loop .inv in
     let s = start-at-put-latency-arg c in
-    omega (arith, v .few, v .same, v .within, s .pre .0, s .pre .2)
-
-add-i : tie.Need-add-i Inv-loop μ-loop
-add-i c = omega arith
-
-loop-less : tie.Need-loop-less Inv-loop μ-loop
-loop-less c = omega arith
+    record { few = omega (arith, s .pre .few); room = omega (arith, v .few, v .same, v .within, s .pre .room) }
 
 loop-again : tie.Need-loop-again Inv-loop μ-loop
 loop-again c =
@@ -71,7 +53,7 @@ loop-again c =
     let f : SFits w32 (number .number .result) = search needs in
     let w = c .before .before .put-latency .ensures in
     lines-more _ _ _ _ _ _ _ _ _ _ (turn .before .loop .inv) (turn .loop-test .taken) (latency-more _ _)
-    (named (w .0) (ap (latencyLine (turn .before .loop .i)) (toZ-ofZ f ∙ number .number .ensures))) (w .1)
+    (record { written = named (w .written) (ap (latencyLine (turn .before .loop .i)) (toZ-ofZ f ∙ number .number .ensures)); by = w .by })
 
 same-length : tie.Need-same-length Inv-loop μ-loop
 same-length c = c .before .loop .inv .same
@@ -86,13 +68,13 @@ put-latencies-spec =
     Inv-loop
     μ-loop
     loop-holds
-    mul-number
-    add-number
-    add-number-2
-    number-requires
+    (λ c. omega arith)
+    (λ c. omega arith)
+    (λ c. omega arith)
+    (λ c κs. omega arith)
     put-latency-requires
-    add-i
-    loop-less
+    (λ c. omega arith)
+    (λ c. omega arith)
     loop-again
     same-length
     returns)

@@ -28,7 +28,7 @@ start-at-slice-known3 c = (put-text-arg-at-slice-known3 c) .before .before .befo
 same-length : tie.Need-same-length
 same-length c =
     let w = (put-text-at-slice-known3 c) .put-text .ensures in
-    simp length-set (long (c .before .before .put-whole .ensures .0) ∙ long w)
+    simp length-set (long (c .before .before .put-whole .ensures .written) ∙ long w)
 
 returns : tie.Need-returns
 returns c =
@@ -36,8 +36,8 @@ returns c =
     let v = c .before .before .put-whole .ensures in
     let f = (start-at-slice-known3 c) .fits .z in
     let p = w .place in
-    let q = v .1 in
-    (line-written w (v .0) (toZ-ofZ f), omega arith)
+    let q = v .by in
+    record { written = line-written w (v .written) (toZ-ofZ f); by = omega arith }
 
 pub put-line-spec : {M : Type 1} → statement M
 put-line-spec =

@@ -29,9 +29,12 @@ returns c =
     let s = start-at-slice-known3 c in
     let w = (put-line-at-slice-known3 c) .put-line .ensures in
     let v = c .before .before .put-entries .ensures in
-    let p = w .1 in
-    let q = v .1 in
-    (and-then (named (w .0) (ap (line loopWord) (toZ-ofZ (s .fits .period)))) (v .0), omega arith)
+    let p = w .by in
+    let q = v .by in
+    record {
+      written = and-then (named (w .written) (ap (line loopWord) (toZ-ofZ (s .fits .period)))) (v .written);
+      by = omega arith;
+    }
 
 pub put-loop-spec : {M : Type 1} → statement M
 put-loop-spec =

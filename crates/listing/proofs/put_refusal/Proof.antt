@@ -11,7 +11,8 @@ returns c =
     let call = c .before .before in
     let place = call .before .before in
     let w = call .put-refused .ensures in
-    (named (w .0) (ap₂ refusedLine (place .before .outcome-number .ensures) (place .outcome-place .ensures)), w .1)
+    let e = ap₂ refusedLine (place .before .outcome-number .ensures) (place .outcome-place .ensures) in
+    record { written = named (w .written) e; by = w .by }
 
 pub put-refusal-spec : {M : Type 1} → statement M
 put-refusal-spec =

@@ -1,38 +1,34 @@
--- `listing::put_refused` meets its contract: the word, the number, a space, the place and the newline follow one another.
+-- `listing::put_refused` meets its contract: the word and the number, a space and the place, and the newline follow one another.
 use mathlib.Core.Path.{_≡_, _∙_}
+use mathlib.Core.List.{[], _∷_}
 use Prim.Native.Nat.{_≤_}
 use native.Mathlib.Omega.{arith}
 use denote.Ref.{now}
 use lib.ListN.{length, length-set}
 use Rattle.text.specs.Decimal.{decimal}
+use Rattle.listing.specs.Text.{refusedWord}
 use Rattle.text.proofs.Decimal.{decimal-few}
-use Rattle.text.proofs.Runs.{long, and-then, and-byte}
-use Rattle.listing.proofs.Lines.{counted-written}
+use Rattle.text.proofs.Runs.{and-then, and-byte, named, long}
+use Rattle.listing.proofs.Lines.{refused-line, counted-place}
 use borrow.Author.Needs.{needs}
 use Rattle.listing.proofs.put_refused.Statement.{statement}
 use Rattle.listing.proofs.put_refused.Tie as tie
 
--- the places of the code: behind the word, behind the number, behind the place, each with the one before it and the start
-abbrev start-at-put-text-arg2 : (c : tie.After-put-text-arg2) → tie.Start
-start-at-put-text-arg2 c = c .before .before .before
+-- ---- the places: behind the number, and behind the place
 
-abbrev from-word : (c : tie.After-put-text) → tie.Start
-from-word c = start-at-put-text-arg2 (c .before)
+abbrev start-at : (c : tie.After-put-count-arg2) → tie.Start
+start-at c = c .before .before .before
 
-abbrev put-text-at-put-digits-arg : (c : tie.After-put-digits-arg) → tie.After-put-text
-put-text-at-put-digits-arg c = c .before .before .before
+abbrev known-at : (c : tie.After-put-count-arg4) → tie.After-slice-known2
+known-at c = c .before .before
 
-abbrev word-of : (c : tie.After-put-digits) → tie.After-put-text
-word-of c = put-text-at-put-digits-arg (c .before)
+abbrev number-at : (c : tie.After-put-count-arg4) → tie.After-put-count
+number-at c = known-at c .before .before
 
-abbrev from-number : tie.After-put-digits → tie.Start
-from-number c = from-word (word-of c)
+abbrev start-of : (c : tie.After-put-count-arg4) → tie.Start
+start-of c = start-at (number-at c .before)
 
-abbrev put-digits-at-put-digits-arg2 : (c : tie.After-put-digits-arg2) → tie.After-put-digits
-put-digits-at-put-digits-arg2 c = c .before .before .before
-
-abbrev number-of : (c : tie.After-put-digits2) → tie.After-put-digits
-number-of c = put-digits-at-put-digits-arg2 (c .before)
+-- ---- the answers
 
 -- a number of 32 bits has at most 10 digits, a place of 64 at most 20
 ten : (s : tie.Start) → length (decimal (s .args .number)) ≤ 10
@@ -41,90 +37,55 @@ ten s = decimal-few (s .args .number) 9 (omega (arith, s .fits .number .fits))
 twenty : (s : tie.Start) → length (decimal (s .args .place)) ≤ 20
 twenty s = decimal-few (s .args .place) 19 (omega (arith, s .fits .place .fits))
 
--- behind the number
-behind : (c : tie.After-put-digits) → (c .put-digits .result ≤ 18) × (length (c .put-digits .last .0) ≡ length (now (from-number c .args .text)))
-behind c =
-    let w = word-of c .put-text .ensures in
-    let v = c .put-digits .ensures in
-    let p = w .place in
-    let q = v .place in
-    let h = ten (from-number c) in
-    (omega arith, long v ∙ long w)
+-- the place behind the number, and behind the place
+first : (c : tie.After-put-count-arg4) → number-at c .put-count .result ≤ 18
+first c = omega (arith, ten (start-of c), counted-place refusedWord (start-of c .args .number) (number-at c .put-count .ensures))
 
-put-digits-requires : tie.Need-put-digits-requires
-put-digits-requires c κs =
-    let word = c .before .before .before in
-    let s = from-word word in
-    let w = word .put-text .ensures in
-    let p = w .place in
-    let l = long w in
-    let h = ten s in
-    omega (arith, s .pre)
+second : (c : tie.After-put-count2) → c .put-count2 .result ≤ 39
+second c = omega (arith, first (c .before), twenty (start-of (c .before)), counted-place (32 ∷ []) (start-of (c .before) .args .place) (c .put-count2 .ensures))
+
+put-count-requires : tie.Need-put-count-requires
+put-count-requires c κs = let s = start-at c in omega (arith, ten s, s .pre)
+
+put-count-requires-2 : tie.Need-put-count-requires-2
+put-count-requires-2 c κs =
+    let s = start-of c in
+    omega (arith, first c, twenty s, long (number-at c .put-count .ensures), s .pre)
+
+-- the text is as long as it was
+as-long : (c : tie.After-put-count2) → length (c .put-count2 .last .0) ≡ length (now (start-of (c .before) .args .text))
+as-long c = long (c .put-count2 .ensures) ∙ long (number-at (c .before) .put-count .ensures)
 
 slice-write-text : tie.Need-slice-write-text
-slice-write-text c = let h = behind (c .before .before) in omega arith
-
-add-put-digits : tie.Need-add-put-digits
-add-put-digits c = let h = behind (c .before .before .before) in omega arith
-
-put-digits-requires-2 : tie.Need-put-digits-requires-2
-put-digits-requires-2 c κs =
-    let number = c .before .before .before in
-    let h = behind number in
-    let s = from-number number in
-    let d = twenty s in
-    simp length-set (omega (arith, s .pre))
-
-slice-write-text-2 : tie.Need-slice-write-text-2
-slice-write-text-2 c =
-    let number = number-of (c .before .before) in
-    let h = behind number in
-    let s = from-number number in
-    let u = c .before .before .put-digits2 .ensures in
-    let d = twenty s in
-    let l = (simp length-set at (long u)) in
-    omega (arith, u .place, s .pre)
+slice-write-text c =
+    let place = c .before .before in
+    omega (arith, second place, as-long place, start-of (place .before) .pre)
 
 add-result : tie.Need-add-result
-add-result c =
-    let number = number-of (c .before .before) in
-    let h = behind number in
-    let u = c .before .before .put-digits2 .ensures in
-    let d = twenty (from-number number) in
-    omega (arith, u .place)
+add-result c = omega (arith, second (c .before .before))
 
 same-length : tie.Need-same-length
-same-length c =
-    let number = number-of (c .before .before) in
-    let w = word-of number .put-text .ensures in
-    let v = number .put-digits .ensures in
-    let u = c .before .before .put-digits2 .ensures in
-    let m = (simp length-set at (long u)) in
-    simp length-set (m ∙ long v ∙ long w)
+same-length c = simp length-set (as-long (c .before .before))
 
 returns : tie.Need-returns
 returns c =
-    let number = number-of (c .before .before) in
-    let s = from-number number in
-    let w = word-of number .put-text .ensures in
-    let v = number .put-digits .ensures in
-    let u = c .before .before .put-digits2 .ensures in
-    let h = behind number in
-    let d = twenty s in
-    let q = u .place in
-    (and-byte (and-then (counted-written (s .args .number) w v) u) 10, omega arith)
+    let place = c .before .before in
+    let s = start-of (place .before) in
+    let w = and-then (number-at (place .before) .put-count .ensures) (place .put-count2 .ensures) in
+    record {
+      written = named (and-byte w 10) (refused-line (s .args .number) (s .args .place));
+      by = omega (arith, second place);
+    }
 
 pub put-refused-spec : {M : Type 1} → statement M
 put-refused-spec =
     tie.close
     (tie.spec
     (λ c. search needs)
-    (λ c κs. search needs)
-    put-digits-requires
+    put-count-requires
+    (λ c. search needs)
+    put-count-requires-2
     slice-write-text
-    add-put-digits
-    put-digits-requires-2
-    slice-write-text-2
     add-result
     same-length
     returns)

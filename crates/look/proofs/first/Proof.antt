@@ -1,131 +1,87 @@
 -- `look::first` meets its contract: register by register it writes the first row and its preds.
-use mathlib.Core.Path.{_≡_, ap, sym, _∙_}
-use Prim.Native.Nat.{_-_, _≤_}
+use mathlib.Core.Path.{sym, _∙_}
+use Prim.Native.Nat.{_-_}
 use native.Mathlib.Omega.{arith}
 use borrow.Author.Needs.{needs}
 use denote.Ref.{now}
-use lib.ListN.{length, getD}
+use lib.ListN.{getD}
 use lib.IntN.{pos}
 use mir.Syntax.{w32}
 use mir.Val.{SFits}
 use mir.Facts.{toZ-ofZ}
-use Rattle.look.specs.Firsts.{FirstsBelow}
-use Rattle.look.proofs.Firsts.{firsts-host, firsts-put}
+use Rattle.look.proofs.Firsts.{Writing, writing-host, writing-place, writing-more, writing-all}
 use Rattle.look.proofs.first.Statement.{statement}
 use Rattle.look.proofs.first.Tie as tie
 
 abbrev Inv-loop : tie.InvT-loop
-Inv-loop amount n a₀ p₀ v₀ a p v = FirstsBelow n amount a p v × (1 ≤ v) × (v ≤ n)
+Inv-loop amount n a₀ preds₀ v₀ a preds v = Writing n amount a preds v
 
 abbrev μ-loop : tie.MeasureT-loop
-μ-loop amount n a₀ p₀ v₀ a p v = n - v
+μ-loop amount n a₀ preds₀ v₀ a preds v = n - v
 
--- ---- the places
+-- the places that are spoken of, each from the one after it
+abbrev start : (c : tie.At-loop Inv-loop μ-loop) → tie.Start Inv-loop μ-loop
+start c = c .before .before
 
-abbrev start-at-slice-known : (c : tie.After-slice-known Inv-loop μ-loop) → tie.Start Inv-loop μ-loop
-start-at-slice-known c = c .before
+abbrev placed : (c : tie.After-low Inv-loop μ-loop) → tie.At-loop Inv-loop μ-loop
+placed c = c .before .before
 
-abbrev slice-known-at-at-loop : (c : tie.At-loop Inv-loop μ-loop) → tie.After-slice-known Inv-loop μ-loop
-slice-known-at-at-loop c = c .before
-
-abbrev start-at-at-loop : (c : tie.At-loop Inv-loop μ-loop) → tie.Start Inv-loop μ-loop
-start-at-at-loop c = start-at-slice-known (slice-known-at-at-loop c)
-
-abbrev at-loop-at-in-loop : (c : tie.In-loop Inv-loop μ-loop) → tie.At-loop Inv-loop μ-loop
-at-loop-at-in-loop c = c .before
-
-abbrev start-at-in-loop : (c : tie.In-loop Inv-loop μ-loop) → tie.Start Inv-loop μ-loop
-start-at-in-loop c = start-at-at-loop (at-loop-at-in-loop c)
-
-abbrev in-loop-at-low : (c : tie.After-low Inv-loop μ-loop) → tie.In-loop Inv-loop μ-loop
-in-loop-at-low c = c .before
-
-abbrev start-at-low : (c : tie.After-low Inv-loop μ-loop) → tie.Start Inv-loop μ-loop
-start-at-low c = start-at-in-loop (in-loop-at-low c)
-
-abbrev low-at-a : (c : tie.After-a Inv-loop μ-loop) → tie.After-low Inv-loop μ-loop
-low-at-a c = c .before
-
-abbrev start-at-a : (c : tie.After-a Inv-loop μ-loop) → tie.Start Inv-loop μ-loop
-start-at-a c = start-at-low (low-at-a c)
-
-abbrev at-loop-at-loop : (c : tie.After-loop Inv-loop μ-loop) → tie.At-loop Inv-loop μ-loop
-at-loop-at-loop c = c .before
-
-abbrev start-at-loop : (c : tie.After-loop Inv-loop μ-loop) → tie.Start Inv-loop μ-loop
-start-at-loop c = start-at-at-loop (at-loop-at-loop c)
-
-abbrev at-loop-at-low : (c : tie.After-low Inv-loop μ-loop) → tie.At-loop Inv-loop μ-loop
-at-loop-at-low c = at-loop-at-in-loop (in-loop-at-low c)
-
-abbrev in-loop-at-a : (c : tie.After-a Inv-loop μ-loop) → tie.In-loop Inv-loop μ-loop
-in-loop-at-a c = in-loop-at-low (low-at-a c)
-
-abbrev at-loop-at-a : (c : tie.After-a Inv-loop μ-loop) → tie.At-loop Inv-loop μ-loop
-at-loop-at-a c = at-loop-at-in-loop (in-loop-at-low (low-at-a c))
-
--- ---- the answers
+abbrev turn : (c : tie.After-a Inv-loop μ-loop) → tie.In-loop Inv-loop μ-loop
+turn c = c .before .before
 
 slice-set-of-a : tie.Need-slice-set-of-a Inv-loop μ-loop
-slice-set-of-a c = let w = start-at-slice-known c .pre in omega arith
+slice-set-of-a c = let w = c .before .pre in omega (arith, w .some, w .row-long)
 
-slice-write-p : tie.Need-slice-write-p Inv-loop μ-loop
-slice-write-p c = let w = start-at-slice-known c .pre in omega arith
+slice-write-preds : tie.Need-slice-write-preds Inv-loop μ-loop
+slice-write-preds c = let w = c .before .pre in omega (arith, w .some, w .preds-long)
 
 loop-holds : tie.Need-loop-holds Inv-loop μ-loop
-loop-holds c = let w = c .before .pre in (firsts-host _ _ _ _ (c .before .pre), omega arith, w .some)
+loop-holds c = writing-host _ _ _ _ (c .before .pre)
 
 low-requires : tie.Need-low-requires Inv-loop μ-loop
-low-requires c κs = c .before .loop .inv .1
+low-requires c κs = c .before .loop .inv .some
 
 mul-a : tie.Need-mul-a Inv-loop μ-loop
-mul-a c = let w = start-at-low c .pre in let inv = at-loop-at-low c .loop .inv in let l = in-loop-at-low c .loop-test .taken in let e = c .low .ensures in omega arith
+mul-a c = omega (arith, c .low .ensures, c .before .loop-test .taken, start (placed c) .pre .few)
 
 shared-slice-copy-out-a : tie.Need-shared-slice-copy-out-a Inv-loop μ-loop
-shared-slice-copy-out-a c = let w = start-at-low c .pre in let inv = at-loop-at-low c .loop .inv in let l = in-loop-at-low c .loop-test .taken in let e = c .low .ensures in omega arith
+shared-slice-copy-out-a c = writing-place _ _ _ _ _ (placed c .loop .inv) (c .before .loop-test .taken) (start (placed c) .pre .lows) _ (c .low .ensures)
 
 mul-t13 : tie.Need-mul-t13 Inv-loop μ-loop
-mul-t13 c = let w = start-at-a c .pre in let inv = at-loop-at-a c .loop .inv in let l = in-loop-at-a c .loop-test .taken in let e = low-at-a c .low .ensures in omega arith
+mul-t13 c = omega (arith, turn c .loop-test .taken, start (turn c .before) .pre .few)
 
 slice-set-from-a : tie.Need-slice-set-from-a Inv-loop μ-loop
-slice-set-from-a c = let w = start-at-a c .pre in let inv = at-loop-at-a c .loop .inv in let l = in-loop-at-a c .loop-test .taken in let e = low-at-a
-    c .low .ensures in let long = inv .0 .row in omega arith
+slice-set-from-a c = omega (arith, turn c .loop-test .taken, turn c .before .loop .inv .done .row-long)
 
-cast-p : tie.Need-cast-p Inv-loop μ-loop
-cast-p c = let w = start-at-a c .pre in let inv = at-loop-at-a c .loop .inv in let l = in-loop-at-a c .loop-test .taken in let e = low-at-a c .low .ensures in omega arith
+cast-preds : tie.Need-cast-preds Inv-loop μ-loop
+cast-preds c = omega (arith, c .before .low .ensures, turn c .loop-test .taken, start (turn c .before) .pre .few)
 
-mul-p : tie.Need-mul-p Inv-loop μ-loop
-mul-p c = let w = start-at-a c .pre in let inv = at-loop-at-a c .loop .inv in let l = in-loop-at-a c .loop-test .taken in let e = low-at-a c .low .ensures in omega arith
+mul-preds : tie.Need-mul-preds Inv-loop μ-loop
+mul-preds c = omega (arith, turn c .loop-test .taken, start (turn c .before) .pre .few)
 
-slice-write-p-2 : tie.Need-slice-write-p-2 Inv-loop μ-loop
-slice-write-p-2 c = let w = start-at-a c .pre in let inv = at-loop-at-a c .loop .inv in let l = in-loop-at-a c .loop-test .taken in let e = low-at-a c
-    .low .ensures in let long = inv .0 .preds in omega arith
+slice-write-preds-2 : tie.Need-slice-write-preds-2 Inv-loop μ-loop
+slice-write-preds-2 c = omega (arith, turn c .loop-test .taken, turn c .before .loop .inv .done .preds-long)
 
 add-v : tie.Need-add-v Inv-loop μ-loop
-add-v c = let w = start-at-a c .pre in let inv = at-loop-at-a c .loop .inv in let l = in-loop-at-a c .loop-test .taken in let e = low-at-a c .low .ensures in omega arith
+add-v c = omega (arith, turn c .loop-test .taken, start (turn c .before) .pre .few)
 
 loop-less : tie.Need-loop-less Inv-loop μ-loop
-loop-less c = let l = in-loop-at-a c .loop-test .taken in omega arith
+loop-less c = omega (arith, turn c .loop-test .taken)
 
 loop-again : tie.Need-loop-again Inv-loop μ-loop
 loop-again c =
-    let k = start-at-a c in
-    let inv = at-loop-at-a c .loop .inv in
-    let l = in-loop-at-a c .loop-test .taken in
-    let f : SFits w32 (getD (now (k .args .amount)) (low-at-a c .low .result) (pos 0)) = search needs in
-    (firsts-put _ _ _ _ _ _ _ (inv .1) l (low-at-a c .low .ensures) (toZ-ofZ f) (inv .0), omega arith, omega arith)
+    let i = turn c in
+    let f : SFits w32 (getD (now (start (i .before) .args .amount)) (c .before .low .result) (pos 0)) = search needs in
+    writing-more _ _ _ _ _ (i .before .loop .inv) (i .loop-test .taken) _ _ (c .before .low .ensures) (toZ-ofZ f)
 
 same-length : tie.Need-same-length Inv-loop μ-loop
-same-length c = c .before .loop .inv .0 .row ∙ sym (start-at-loop c .pre .row)
+same-length c = c .before .loop .inv .done .row-long ∙ sym (start (c .before) .pre .row-long)
 
 same-length-2 : tie.Need-same-length-2 Inv-loop μ-loop
-same-length-2 c = c .before .loop .inv .0 .preds ∙ sym (start-at-loop c .pre .preds)
+same-length-2 c = c .before .loop .inv .done .preds-long ∙ sym (start (c .before) .pre .preds-long)
 
 returns : tie.Need-returns Inv-loop μ-loop
-returns c =
-    let inv = c .before .loop .inv in
-    let all : c .before .loop .v ≡ start-at-loop c .args .n = let l = c .loop-test .left in let b = inv .2 in omega arith in
-    rw all at (inv .0)
+returns c = writing-all _ _ _ _ _ (c .before .loop .inv) (c .loop-test .left)
 
 pub first-spec : {M : Type 1} → statement M
 first-spec =
@@ -134,16 +90,16 @@ first-spec =
     Inv-loop
     μ-loop
     slice-set-of-a
-    slice-write-p
+    slice-write-preds
     loop-holds
     low-requires
     mul-a
     shared-slice-copy-out-a
     mul-t13
     slice-set-from-a
-    cast-p
-    mul-p
-    slice-write-p-2
+    cast-preds
+    mul-preds
+    slice-write-preds-2
     add-v
     loop-less
     loop-again

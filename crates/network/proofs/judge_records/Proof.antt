@@ -69,7 +69,7 @@ lowest-path-requires c κs =
     let before = (start-at-enum-told c) .pre in
     let l = sized-length _ (before .1) in
     let s = counts-to _ (before .0) in
-    ((count-at-enum-told c) .count .ensures, omega arith, omega arith)
+    record { counted = count-at-enum-told c .count .ensures; few = omega arith; long = omega arith }
 
 returns : tie.Need-returns
 returns c =

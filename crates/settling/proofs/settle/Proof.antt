@@ -11,7 +11,7 @@ abbrev entry : (c : tie.After-marks) → tie.Start
 entry c = start-at-shared-slice-known3 (c .before .before)
 
 settle-all-requires : tie.Need-settle-all-requires
-settle-all-requires c κs = let k = entry c .pre in (k, (k .shape .few, zeros 256))
+settle-all-requires c κs = let k = entry c .pre in record { settleable = k; marks-long = k .shape .few; none = zeros 256 }
 
 pub settle-spec : {M : Type 1} → statement M
 settle-spec =

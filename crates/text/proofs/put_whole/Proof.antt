@@ -62,7 +62,7 @@ returns c =
     let h = ten k in
     let p = c .before .before .put-digits .ensures .place in
     let e = whole-negative _ (is-below (then1-at-slice-known2 c)) ∙ ap {B = List ℕ} (λ n. 45 ∷ decimal n) (sym (is-size k)) in
-    (named (byte-first _ _ _ (c .before .before .put-digits .ensures)) (sym e), omega arith)
+    record { written = named (byte-first _ _ _ (c .before .before .put-digits .ensures)) (sym e); by = omega arith }
 
 put-digits-requires-2 : tie.Need-put-digits-requires-2
 put-digits-requires-2 c κs = let h = ten (c .before .before) in omega arith
@@ -73,7 +73,7 @@ returns-2 c =
     let h = ten k in
     let p = c .before .before .put-digits2 .ensures .place in
     let e = whole-positive _ (is-from (else1-at-slice-known3 c)) ∙ ap decimal (sym (is-size k)) in
-    (named (c .before .before .put-digits2 .ensures) (sym e), omega arith)
+    record { written = named (c .before .before .put-digits2 .ensures) (sym e); by = omega arith }
 
 pub put-whole-spec : {M : Type 1} → statement M
 put-whole-spec =

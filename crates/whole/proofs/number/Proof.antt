@@ -1,3 +1,4 @@
+-- `whole::number` meets its contract: the four bytes as a number without sign, and what that stands for.
 use mir.Facts.{toZ-ofZ}
 use mathlib.Core.Path.{ap, _∙_}
 use Rattle.whole.specs.Four.{numberAt, signedOf}

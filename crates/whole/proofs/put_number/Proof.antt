@@ -1,3 +1,4 @@
+-- `whole::put_number` meets its contract: the bytes of the number without sign are the number's four.
 use mathlib.Core.Path.{ap, _∙_}
 use Prim.Native.Nat.{ℕ}
 use denote.Ref.{now}

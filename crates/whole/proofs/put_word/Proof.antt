@@ -1,3 +1,4 @@
+-- `whole::put_word` meets its contract: four stores, one behind the other.
 use Rattle.whole.specs.Four.{bytesOf}
 use lib.ListN.{length-set}
 use native.Mathlib.Omega.{arith}

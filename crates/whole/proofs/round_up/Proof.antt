@@ -4,7 +4,7 @@ use Prim.Native.Nat.{_+_}
 use native.Mathlib.Omega.{arith}
 use native.Mathlib.Nat.{div-le-self}
 use borrow.Author.Needs.{needs}
-use lib.IntN.{pos, negsuc, natAbs, _-ℤ_}
+use lib.IntN.{negsuc, natAbs, _-ℤ_}
 use mir.Facts.{toZ-ofZ, toZ-pos}
 use mir.Syntax.{w64}
 use mir.Val.{SFits}

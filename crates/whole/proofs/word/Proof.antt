@@ -1,3 +1,4 @@
+-- `whole::word` meets its contract: the four bytes, added up as the definition has them.
 use Rattle.whole.specs.Four.{wordAt}
 use borrow.Author.Needs.{needs}
 use Rattle.whole.proofs.word.Statement.{statement}

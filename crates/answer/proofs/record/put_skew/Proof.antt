@@ -37,7 +37,7 @@ put-number-requires c κs = simp length-set (omega arith)
 
 -- each number leaves the output as long as it was
 long : (c : tie.After-put-number) → length (c .put-number .last .0) ≡ length (now (start c .args .out))
-long c = c .put-number .kept .0 ∙ marks-long (now (start c .args .out)) 0 1 _ _
+long c = c .put-number .kept .0 ∙ marks-long (now (start c .args .out)) _ _ _ _
 
 long-2 : (c : tie.After-put-number2) → length (c .put-number2 .last .0) ≡ length (now (start (first c) .args .out))
 long-2 c = c .put-number2 .kept .0 ∙ long (first c)

@@ -1,12 +1,10 @@
 -- `answer::run::put_entries` meets its contract. The loop's invariant: the records of the entries passed stand in the output.
-use mathlib.Core.Path.{_∙_}
-use Prim.Native.Nat.{ℕ, _-_, _<_}
+use Prim.Native.Nat.{ℕ, _-_}
 use native.Mathlib.Omega.{arith}
 use denote.Ref.{now}
 use lib.ListN.{getD}
 use mir.Syntax.{w32}
 use mir.Facts.{toZ-pos}
-use borrow.Author.Needs.{needs}
 use Rattle.answer.specs.Records.{Placed}
 use Rattle.answer.proofs.Entries.{Entered, place, entered-none, entered-long, entered-more, entered-all}
 use Rattle.answer.proofs.run.put_entries.Statement.{statement}

@@ -53,12 +53,12 @@ read-requires : tie.Need-read-requires Inv-loop μ-loop
 read-requires c κs = let e = c .before .loop .inv .0 in omega arith
 
 path-ok-requires : tie.Need-path-ok-requires Inv-loop μ-loop
-path-ok-requires c κs = (start-at-read c) .pre .1
+path-ok-requires c κs = start-at-read c .pre .few
 
 -- what the test of a record says is said of path p, whose place it was read at
 tested : (c : tie.After-path-ok Inv-loop μ-loop) → c .path-ok .result ≡ pathOk (now ((start-at-path-ok c) .args .file)) (c .before .before .before .loop .p)
 tested c =
-    let k = (start-at-path-ok c) .pre .0 in
+    let k = start-at-path-ok c .pre .counted in
     c .path-ok .ensures _ _ k (path-there _ _ _ _ k (c .before .before .before .loop .inv .0) (c .before .read .ensures))
 
 returns : tie.Need-returns Inv-loop μ-loop

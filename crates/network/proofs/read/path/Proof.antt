@@ -39,7 +39,7 @@ start-at-number c = start-at-struct-told4 (c .before)
 -- ---- the answers
 
 inside : (c : tie.Start) → 22 + 18 * (c .args .n + c .args .p) + 18 ≤ length (now (c .args .file))
-inside c = path-inside _ (c .pre .0) _ _ (c .pre .1) (c .pre .2)
+inside c = path-inside _ (c .pre .accepted) _ _ (c .pre .registers) (c .pre .exists)
 
 add-read : tie.Need-add-read
 add-read c = let l = inside (c .before) in omega arith
@@ -59,7 +59,7 @@ number-requires c κs = let l = inside (start-at-struct-told4 c) in omega arith
 returns : tie.Need-returns
 unfolding networkOf
 returns c =
-    let e = (start-at-number c) .pre .1 in
+    let e = start-at-number c .pre .registers in
     let r = (read-at-number c) .read in
     let a : SFits w32 (r .result .first) = search needs in
     let b : SFits w32 (r .result .second) = search needs in

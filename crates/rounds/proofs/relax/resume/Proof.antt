@@ -17,14 +17,14 @@ copied c = c .before .before .before
 abbrev copy-preds-at-go-on-arg : (c : tie.After-go-on-arg) → tie.After-copy-preds
 copy-preds-at-go-on-arg c = c .before .before .before
 
-abbrev noted : (c : tie.After-rounds) → tie.After-copy-preds
+abbrev noted : (c : tie.After-pairs) → tie.After-copy-preds
 noted c = copy-preds-at-go-on-arg (c .before .before .before)
 
 go-on-requires : tie.Need-go-on-requires
 go-on-requires c κs =
     let n = noted c in
     let k = entry (copied n .before) .pre in
-    (starts-copied _ _ _ _ _ _ _ (copied n .copy .ensures) (n .copy-preds .ensures) (k .0), k .1 .2)
+    record { starts = starts-copied _ _ _ _ _ _ _ (copied n .copy .ensures) (n .copy-preds .ensures) (k .starts); room = k .room }
 
 pub resume-spec : {M : Type 1} → statement M
 resume-spec =

@@ -1,6 +1,5 @@
 -- `skew::question::exists` meets its contract: each way through the match tells of the rule of its kind.
 use mathlib.Core.Path.{_≡_}
-use Prim.Native.Nat.{_<_}
 use native.Mathlib.Omega.{arith}
 use lib.IntN.{pos, natAbs}
 use lib.Signed.{_≤ℤ_, _<ℤ_}

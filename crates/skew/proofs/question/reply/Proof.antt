@@ -7,7 +7,7 @@ use borrow.Author.Tests.{not-true, not-false}
 use denote.Ref.{now}
 use mir.Syntax.{w32}
 use mir.Val.{SFits}
-use mir.Facts.{toZ-ofZ}
+use Rattle.whole.proofs.Lin.{lin}
 use Rattle.paper.specs.File.{networkOf}
 use Rattle.paper.specs.Refusals.{faults}
 use Rattle.paper.specs.declared.Reply.{Reply}
@@ -72,7 +72,7 @@ returns-3 c =
     let s = from-tests (past .before .before .before) in
     let z = past .slack in
     let f : SFits w32 (z .result .0) = search needs in
-    answered s (slack-yes _ (first s) (at s) (s .pre) (in-range (past .before)) (z .result .0) (z .ensures) (rw (toZ-ofZ f) at (c .if3 .taken)))
+    answered s (slack-yes _ (first s) (at s) (s .pre) (in-range (past .before)) (z .result .0) (z .ensures) (let u = c .if3 .taken in omega lin))
 
 returns-4 : tie.Need-returns-4
 returns-4 c =
@@ -80,7 +80,7 @@ returns-4 c =
     let s = from-tests (past .before .before .before) in
     let z = past .slack in
     let f : SFits w32 (z .result .0) = search needs in
-    answered s (slack-no _ (first s) (at s) (s .pre) (in-range (past .before)) (z .result .0) (z .ensures) (rw (toZ-ofZ f) at (c .if3 .left)))
+    answered s (slack-no _ (first s) (at s) (s .pre) (in-range (past .before)) (z .result .0) (z .ensures) (let u = c .if3 .left in omega lin))
 
 pub reply-spec : {M : Type 1} → statement M
 reply-spec =

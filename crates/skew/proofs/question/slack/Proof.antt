@@ -68,7 +68,7 @@ cast-k c =
 -- ---- setup
 
 path-requires : tie.Need-path-requires
-path-requires c κs = let p = s1 c .pre in (p .accepted, p .registers, is-setup c .exists)
+path-requires c κs = let p = s1 c .pre in record { accepted = p .accepted; registers = p .registers; exists = is-setup c .exists }
 
 -- the arm of each place on the way
 abbrev arm-register : tie.After-register → tie.At-match-keys1
@@ -118,7 +118,7 @@ returns c =
 -- ---- hold
 
 path-requires-2 : tie.Need-path-requires-2
-path-requires-2 c κs = let p = s2 c .pre in (p .accepted, p .registers, is-hold c .exists)
+path-requires-2 c κs = let p = s2 c .pre in record { accepted = p .accepted; registers = p .registers; exists = is-hold c .exists }
 
 abbrev arm-register2 : tie.After-register2 → tie.At-match-keys2
 arm-register2 c = c .before .before
