@@ -46,6 +46,7 @@ module _ (N : Network) (L : Lists) (amounts : List ℤ) (wide : Wide N L amounts
     in-amounts = wide .in-amounts;
   }
 
+  -- writing an amount leaves the lists as long as they were
   pub wide-amount : Wide N L (with-amount N amounts r)
   wide-amount = record {
     in-kinds = wide .in-kinds;
@@ -77,6 +78,7 @@ module _ (N : Network) (L : Lists) (amounts : List ℤ) (wide : Wide N L amounts
   pub base-new : HasBase N (with-amount N amounts r) r
   base-new = new N (pos 0) (base N) amounts (wide .in-amounts) r x
 
+  -- and every other rule keeps its own
   pub base-kept : (s : Rule) → Exists N s → HasBase N amounts s → HasBase N (with-amount N amounts r) s
   base-kept s y h = kept N (pos 0) (base N) amounts (wide .in-amounts) r x s y h
 

@@ -48,6 +48,7 @@ fn number_of(n: u32) -> i32 {
     if n < NUMBERS { n as i32 } else { -1 }
 }
 
+// The pattern that what is left untouched can be told by. Before each turn the bytes before i have it.
 fn fill(out: &mut [u8]) {
     let mut i = 0;
     while i < out.len() {

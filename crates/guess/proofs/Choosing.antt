@@ -1,4 +1,4 @@
--- What is noted at a register is an arrow into it.
+-- What is noted at a register is an arrow into it. Rests on the definitions alone.
 use mathlib.Core.Path.{_≡_, refl, ap, _∙_}
 use mathlib.Core.List.{List}
 use Prim.Native.Nat.{ℕ, _<_}

@@ -1,4 +1,4 @@
--- The preds cleared register by register: the loop's invariant and its laws.
+-- The preds cleared register by register: the loop's invariant and its laws. Rests on `Below` of `loops`.
 use mathlib.Core.Path.{_≡_, _∙_}
 use mathlib.Core.List.{List}
 use Prim.Native.Nat.{ℕ, _+_, _≤_, _<_}

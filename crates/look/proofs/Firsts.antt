@@ -1,4 +1,4 @@
--- The first row and its preds, written register by register.
+-- The first row and its preds, written register by register. Rests on the definitions alone.
 use mathlib.Core.Path.{_≡_, _∙_}
 use mathlib.Core.List.{List}
 use Prim.Native.Nat.{ℕ, _+_, _-_, _≤_, _<_}

@@ -1,5 +1,6 @@
 -- Small networks of arrows, relaxed by computing: one that rests, one with a circle away from the host, and one whose circle passes the host.
 -- Three registers, with their windows from 0 to 10: arrows 0 and 1 are the lows, 2 and 3 the highs, 4 goes from 1 to 2 and 5 from 2 to 1.
+-- Rests on computing the model.
 use mathlib.Core.Path.{_≡_, refl}
 use mathlib.Core.List.{[], _∷_}
 use Prim.Native.Nat.{ℕ, zero, suc, _-_, _<_}

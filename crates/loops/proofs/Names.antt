@@ -1,4 +1,4 @@
--- A kind and a number name a rule, and a rule has one kind and one number: each gives back the other.
+-- A kind and a number name a rule, and a rule has one kind and one number: each gives back the other. Rests on the definitions alone.
 use mathlib.Core.Path.{_≡_, refl}
 use mathlib.Core.Bool.{Bool, true, false, cond}
 use Prim.Native.Nat.{ℕ, zero, suc, _<_}

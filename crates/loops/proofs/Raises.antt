@@ -1,5 +1,6 @@
 -- The step of the climb: from a period at which a loop with setup rules contradicts itself, up by what its sum is over, shared among the
 -- setup rules and rounded up. The next period is longer, and the loop contradicts itself at the one before it.
+-- Rests on `LoopLaws` of `paper`.
 use mathlib.Core.Path.{_≡_, refl, sym, _∙_}
 use mathlib.Core.List.{List}
 use Prim.Native.Nat.{ℕ, _-_, _<_}

@@ -1,4 +1,5 @@
 -- The first places of a list: what holds of every one of them, and what is made of them one by one.
+-- Rests on `LoopLaws` of `paper`, for what holds at each place.
 use mathlib.Core.Path.{_≡_, refl, ap, _∙_}
 use mathlib.Core.List.{List, [], _∷_, _++_, map}
 use Prim.Native.Nat.{ℕ, _+_, _≤_, _<_}

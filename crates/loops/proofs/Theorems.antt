@@ -1,5 +1,5 @@
 -- Schedules, loops and needs of an accepted network, in the paper's words on both sides. Each theorem is a law of `Rules` or `NeedLaws`,
--- which hold of every network with a host whose paths join registers; an accepted network is one.
+-- which hold of every network with a host whose paths join registers; an accepted network is one. Rests on `Rules` and `NeedLaws`.
 use mathlib.Core.Path.{_≡_}
 use mathlib.Core.Logic.{_⊎_, _↔_}
 use mathlib.Core.List.{List}

@@ -35,5 +35,6 @@ small-read n h = toZ-pos w32 (omega arith)
 pub last-fits : (n : ℕ) → n ≤ 256 → SFits w32 (pos n -ℤ pos 1)
 last-fits n h = omega (lin, minus (pos n) (pos 1))
 
+-- it is read back as itself
 pub last-read : (n : ℕ) → n ≤ 256 → toZ w32 (ofZ w32 (toZ w32 n -ℤ pos 1)) ≡ pos n -ℤ pos 1
 last-read n h = rw (small-read n h) (toZ-ofZ (last-fits n h))

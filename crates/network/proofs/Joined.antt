@@ -22,10 +22,12 @@ pub counted-joined : (f : List ℕ) {n m r : Bool}
 unfolding counted
 counted-joined f n m r = rw (n, m) at r
 
+-- the test of the length, by the counts that were read
 pub sized-joined : (f : List ℕ) (n m : ℕ) → n ≡ registers f → m ≡ paths f → eqb (length f) (22 + 18 * (n + m)) ≡ sized f
 unfolding sized
 sized-joined f n m e g = rw (e, g)
 
+-- the tests of floor, ceiling and u, joined, are the header's
 pub ranged-joined : (f : List ℕ) {floor ceiling u r : Bool}
     → floor ≡ within (pos 1) (pos 10000000) (numberAt f 10)
     → ceiling ≡ within (numberAt f 10) (pos 10000000) (numberAt f 14)

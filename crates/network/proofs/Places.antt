@@ -16,6 +16,7 @@ module _ (f : List ℕ) (a : Accepted f) where
   pub header-inside : 22 ≤ length f
   header-inside = let l = accepted-length f a in omega arith
 
+  -- a register record lies within the file
   pub register-inside : (i : ℕ) → i < networkOf f .registers → registerPlace f i + 18 ≤ length f
   unfolding networkOf
   register-inside i h = let l = accepted-length f a in omega arith
@@ -33,6 +34,7 @@ module _ (f : List ℕ) (a : Accepted f) where
       let b = r .in-floor .from in
       sym (natural-is _ (omega lin))
 
+  -- the number at byte 14 is the network's ceiling
   pub ceiling-is : numberAt f 14 ≡ pos (networkOf f .ceiling)
   unfolding networkOf
   ceiling-is =

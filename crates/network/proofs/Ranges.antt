@@ -55,5 +55,6 @@ module _ {N : Network} (legal : Legal N) where
 pub register-ranges : (f : List ℕ) (i : ℕ) (r : Register) → Accepted f → i < networkOf f .registers → IsRegister (networkOf f) i r → RegisterRanges r
 register-ranges f i r a l e = legal-register (accepted-legal f a) i r l e
 
+-- the same of a path: its ends are registers, and its delays and uncertainty lie in their ranges
 pub path-ranges : (f : List ℕ) (n p : ℕ) (r : Path) → Accepted f → n ≡ networkOf f .registers → p < networkOf f .paths → IsPath (networkOf f) p r → PathRanges n r
 path-ranges f n p r a k l e = legal-path (accepted-legal f a) n p r k l e

@@ -1,4 +1,4 @@
--- A list copied element by element from the front.
+-- A list copied element by element from the front. Rests on lists alone.
 use mathlib.Core.Path.{_≡_, _∙_}
 use mathlib.Core.List.{List}
 use Prim.Native.Nat.{ℕ, _+_, _≤_, _<_}

@@ -131,9 +131,11 @@ module _ (Γ : Arrows) (shape : Shape Γ) where
       pub after-fair : Fair Γ q
       after-fair = rw preds-is round-fair
 
+      -- a round leaves one pred for each register
       pub after-preds-long : length q ≡ Γ .registers
       after-preds-long = rw preds-is preds-long
 
+      -- and one time for each register
       pub after-row-long : length b ≡ Γ .registers
       after-row-long = rw row-is row-long
 

@@ -24,6 +24,7 @@ sum {a = a} {b = b} e s t = omega (lin, plus a b)
 pub sum-fits : {j k : ℕ} {a b : ℤ} → j + k < 2147483648 → Reach j a → Reach k b → SFits w32 (a +ℤ b)
 sum-fits {a = a} {b = b} h s t = omega (lin, plus a b)
 
+-- so does their difference
 pub difference-fits : {j k : ℕ} {a b : ℤ} → j + k < 2147483648 → Reach j a → Reach k b → SFits w32 (a -ℤ b)
 difference-fits {a = a} {b = b} h s t = omega (lin, minus a b)
 

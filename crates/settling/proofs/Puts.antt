@@ -94,11 +94,13 @@ module _ (Γ : Arrows) (preds : List ℕ) (s : ℕ) (old : List ℕ) where
 
     -- the pred as the code reads it: the time at its tail fits a row, and the walk goes on from there
     module _ (e : ℕ) (is : e ≡ pred preds v) (arrow : e < Γ .count) where
+      -- the time at the tail fits a row
       pub read-in-row : Shape Γ → Fair Γ preds → InRow (z -ℤ amount Γ e)
       read-in-row shape fair =
           let a : pred preds v < Γ .count = rw is at arrow in
           rw is (fair _ _ (shape .sound .leaves (pred preds v) a) (gives-back Γ preds v z a (w .gives)))
 
+      -- the register is written, and the walk stands at the tail
       pub putting-on : Shape Γ → k ≤ Γ .registers → (t : ℕ) (x y : ℤ) → t ≡ tail Γ e → x ≡ y → y ≡ z -ℤ amount Γ e
           → Putting Γ preds s old (set row v z) (set marks v 1) t x (k + 1)
       putting-on shape q t x y at-tail held taken = rw (at-tail, held, taken, is) (putting-more shape q (rw is at arrow))

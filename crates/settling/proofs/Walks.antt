@@ -81,9 +81,11 @@ module _ (Γ : Arrows) (preds : List ℕ) (shape : Shape Γ) where
 
   -- the pred as the code reads it: its amount can be added, and the walk goes on from its tail
   module _ (s v : ℕ) (sum : ℤ) (k e : ℕ) (is : e ≡ pred preds v) (more : k ≤ Γ .registers) (arrow : e < Γ .count) (w : Walking Γ preds s v sum k) where
+    -- the amount can be added in 64 bits
     pub read-fits : SFits w64 (sum +ℤ amount Γ e)
     read-fits = rw is (sum-fits s v sum k more (rw is at arrow) w)
 
+    -- the walk is one step longer
     pub walking-on : (t : ℕ) (x y : ℤ) → t ≡ tail Γ e → x ≡ y → y ≡ sum +ℤ amount Γ e → Walking Γ preds s t x (k + 1)
     walking-on t x y at-tail held added = rw (at-tail, held, added, is) (walking-more s v sum k more (rw is at arrow) w)
 

@@ -1,6 +1,6 @@
 -- Which number is returned when, as a sentence about a file's result for each row of "Numbers returned": the lowest that applies; 1 to 6
 -- exactly when a look at the file finds that fault; 7 exactly when an accepted file finds too little room. What an accepted file with room
--- enough gets, `Demands` says. Each is what `Calls` says of the file's network and of the rows of its faults.
+-- enough gets, `Demands` says. Each is what `Calls` says of the file's network and of the rows of its faults. Rests on `Calls`.
 use mathlib.Core.Path.{_≡_, ap, _∙_}
 use mathlib.Core.Logic.{_↔_}
 use mathlib.Core.List.{List}

@@ -1,5 +1,5 @@
 -- What the contract of the rule question says of a file: when each number is given, and that yes is given exactly when the named rule's
--- inequality holds. Each is what `Asking` says of the file's network and of the rows of its faults.
+-- inequality holds. Each is what `Asking` says of the file's network and of the rows of its faults. Rests on `Asking`.
 use mathlib.Core.Path.{_≡_}
 use mathlib.Core.Logic.{_↔_}
 use mathlib.Core.List.{List}
