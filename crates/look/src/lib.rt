@@ -17,7 +17,7 @@ pub struct Sight {
 
 // After more pairs of rounds than this the kept row is the first row. On long chains the row that rests lies far from where a trial ends, and
 // its preds hang deep, so that going on from it costs more than starting anew. Nothing that is promised rests on the number.
-const MANY: usize = 12;
+const MANY: usize = 16;
 
 // The first row and its preds.
 fn first(amount: &[i32], n: usize, a: &mut [i32], preds: &mut [u16])
