@@ -62,7 +62,7 @@ module _ (N : Network) (kinds numbers : List ℕ) (some : (Q : ℕ) × Scheduled
     loop = take entries ring
 
     -- the loop contradicts itself at the period
-    pub trial-loop : Refutes (rules N) P (map (named kinds numbers) (take entries ring))
+    trial-loop : Refutes (rules N) P (map (named kinds numbers) (take entries ring))
     trial-loop =
         trial-refutes (rules N) (rules-lawful N) (named kinds numbers) (ruleCount N) (N .floor) (N .ceiling) P Γ whole names lays (take entries ring) (s .contradicts) (s .listed)
 

@@ -44,16 +44,6 @@ root-kept Γ a p s t r = go (round-each Γ a p s t 0 (s .some))
     go (inr l) = absurd (let n = l .noted in omega (arith, none))
 
 module _ (Γ Δ : Arrows) (b : Extends Γ Δ) where
-  pub sound-begun : Sound Γ → Sound Δ
-  sound-begun s =
-      let n = b .registers in
-      let few = b .fewer in
-      record {
-        some = let h = s .some in omega arith;
-        leaves = λ e h. let i = s .leaves e (omega arith) in let t = b .tails e h in omega arith;
-        reaches = λ e h. let i = s .reaches e (omega arith) in let t = b .heads e h in omega arith;
-      }
-
   -- a schedule of the first arrows meets them
   pub met-begun : (x : ℕ → ℤ) → Schedule Δ x → MetBelow Γ x (Δ .count)
   met-begun x s e h = rw (b .tails e h, b .heads e h, b .amounts e h) (s .meets e h)

@@ -78,7 +78,7 @@ module _ (Γ : Arrows) (p : List ℕ) where
       go false e = over (ltb-false (back Γ p (suc k) v) (lowest Γ p k v) e)
 
   -- it is one of the registers on the way, ..
-  pub lowest-met : (k v : ℕ) → (j : ℕ) × (lowest Γ p k v ≡ back Γ p j v) × (j ≤ k)
+  lowest-met : (k v : ℕ) → (j : ℕ) × (lowest Γ p k v ≡ back Γ p j v) × (j ≤ k)
   unfolding lowest back
   lowest-met zero v = (0, refl, omega arith)
   lowest-met (suc k) v = lowest-cases (λ u. (j : ℕ) × (u ≡ back Γ p j v) × (j ≤ suc k)) k v

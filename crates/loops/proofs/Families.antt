@@ -36,7 +36,7 @@ module _ {E : Type 0} (F : Family E) (law : Lawful F) where
   scheduled-later P Q h s = (s .0, schedule-later P Q h (s .0) (s .1))
 
   -- a loop that contradicts itself at Q does so at every shorter period
-  pub contradicts-sooner : (P Q : ℕ) → P ≤ Q → (l : List E) → Contradicts (webAt F Q) l → Contradicts (webAt F P) l
+  contradicts-sooner : (P Q : ℕ) → P ≤ Q → (l : List E) → Contradicts (webAt F Q) l → Contradicts (webAt F P) l
   contradicts-sooner P Q h l c =
       let over = c .above in
       let more = totals-fall (F .weigh Q) (F .weigh P) (law .falls P Q h) l in

@@ -32,7 +32,7 @@ module _ (H : ℕ) (a b : List ℤ) where
       (omega (lin, negs (at a v), negs (at b v))) (omega (lin, negs (at a v)))
 
   -- where no register falls, the measure does not rise
-  pub gap-le : (n : ℕ) → ((v : ℕ) → v < n → at a v ≤ℤ at b v) → gapBelow H b n ≤ gapBelow H a n
+  gap-le : (n : ℕ) → ((v : ℕ) → v < n → at a v ≤ℤ at b v) → gapBelow H b n ≤ gapBelow H a n
   unfolding gapBelow
   gap-le zero h = omega arith
   gap-le (suc n) h = omega (arith, gap-le n (λ v q. h v (omega arith)), short-le n (h n (omega arith)))

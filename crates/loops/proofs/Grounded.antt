@@ -15,20 +15,20 @@ module _ (Γ : Arrows) (p : List ℕ) where
   -- ---- depth
 
   -- A register without a pred lies at depth 0 and nowhere else; one with a pred lies one deeper than its pred's tail.
-  pub deep-one : (d e v : ℕ) → Deep Γ p d v → Deep Γ p e v → d ≡ e
+  deep-one : (d e v : ℕ) → Deep Γ p d v → Deep Γ p e v → d ≡ e
   deep-one zero zero v h k = refl
   deep-one zero (suc e) v h k = absurd (omega (arith, k .0))
   deep-one (suc d) zero v h k = absurd (omega (arith, h .0))
   deep-one (suc d) (suc e) v h k = ap suc (deep-one d e (tail Γ (pred p v)) (h .1) (k .1))
 
   -- k steps back the depth is k less
-  pub deep-back : (k d e v : ℕ) → e ≡ k + d → Deep Γ p e v → Deep Γ p d (back Γ p k v)
+  deep-back : (k d e v : ℕ) → e ≡ k + d → Deep Γ p e v → Deep Γ p d (back Γ p k v)
   unfolding back
   deep-back zero d e v q h = let same : e ≡ d = omega arith in rw same at h
   deep-back (suc k) d e v q h = (deep-back k (suc d) e v (omega arith) h) .1
 
   -- and the way goes over arrows
-  pub deep-arrow : (k d v : ℕ) → k < d → Deep Γ p d v → pred p (back Γ p k v) < Γ .count
+  deep-arrow : (k d v : ℕ) → k < d → Deep Γ p d v → pred p (back Γ p k v) < Γ .count
   deep-arrow k d v q h = (deep-back k (suc (d - suc k)) d v (omega arith) h) .0
 
   -- going k steps back over arrows takes k off the depth

@@ -36,7 +36,7 @@ arrowsOf-lays G name count w = record {
 }
 
 module _ {E : Type 0} (G : Graph E) (name : ℕ → E) (w : E → ℤ) (Γ : Arrows) (names : Enumerates G name (Γ .count)) (y : Lays G name w Γ) where
-  pub laid-within : Within (web Γ) (webOf G w) name
+  laid-within : Within (web Γ) (webOf G w) name
   laid-within = record {
     here = names .here;
     tails = y .tails;

@@ -37,7 +37,7 @@ module _ (N : Network) where
   free-loop-no-period l i z P c Q b s = schedule-bars-loop N Q s l i (contradicts-always N P Q l z .0 c)
 
   -- a period with a schedule is at least the need of every loop, for below its need a loop contradicts itself
-  pub need-enough : (P : ℕ) → Scheduled N P → (l : List Rule) → IsLoop N l → 0 < setups l → need N l ≤ℤ pos P
+  need-enough : (P : ℕ) → Scheduled N P → (l : List Rule) → IsLoop N l → 0 < setups l → need N l ≤ℤ pos P
   need-enough P s l i k = reaches (need N l) P (λ b. schedule-bars-loop N P s l i (contradicts-below-need N P l k .1 b))
 
   -- A loop that contradicts itself at P - 1 and not at P has a setup rule, for without one it would be the same at both, and its need is P.
@@ -63,7 +63,7 @@ module _ (N : Network) where
           go (inr w) = let e = w .3 in let m = q .enough (w .0) (w .1) (w .2) in omega lin
 
   -- below P, from the floor on, no period has a schedule: P is the floor, or a loop contradicts itself below P
-  pub need-smallest : (P : ℕ) → GreatestNeed N P → (Q : ℕ) → N .floor ≤ Q → Q < P → Scheduled N Q → ⊥
+  need-smallest : (P : ℕ) → GreatestNeed N P → (Q : ℕ) → N .floor ≤ Q → Q < P → Scheduled N Q → ⊥
   need-smallest P g Q a b s = go (g .reached)
     where
       go : FloorOrNeed N P → ⊥

@@ -92,7 +92,7 @@ module _ {E : Type 0} (G : Graph E) (f : Framed G) (name : ℕ → E) (count : �
   unfolding highest
   highest-over v z b = greatest-over (λ v. below (w (f .high v))) (G .registers) v b
 
-  pub least-or-loop : LeastOrLoop G w
+  least-or-loop : LeastOrLoop G w
   least-or-loop = go (schedule-or-loop Γ low highest (framed-sound G f name w Γ names y) (framed-lows G f name w Γ names y low low-there) (framed-highs G f name w Γ names y highest highest-over))
     where
       go : Either Γ → LeastOrLoop G w
@@ -111,7 +111,7 @@ module _ {E : Type 0} (F : Family E) (law : Lawful F) (lay : LaidOut F) where
       go (inr c) = inr (c .0, record { contradicts = c .1; listed = c .2 })
 
   -- Some period has a schedule, or a loop of fixed arrows contradicts itself: relax the fixed arrows alone.
-  pub some-or-always : ((P : ℕ) × Scheduled (webAt F P)) ⊎ ((l : List E) × Always F l)
+  some-or-always : ((P : ℕ) × Scheduled (webAt F P)) ⊎ ((l : List E) × Always F l)
   some-or-always = go (least-or-loop (fixedGraph F) (lay .fixed-framed) (lay .fixed-name) (lay .fixed-count) (lay .fixed-enumerates) (F .weigh 0))
     where
       go : LeastOrLoop (fixedGraph F) (F .weigh 0) → ((P : ℕ) × Scheduled (webAt F P)) ⊎ ((l : List E) × Always F l)
@@ -161,7 +161,7 @@ module _ {E : Type 0} (F : Family E) (law : Lawful F) (lay : LaidOut F) where
         go (inl t) on = (P, a, t, (l, w))
         go (inr r) on = on (r .0) (r .1)
 
-    pub smallest-period : (Q : ℕ) → Scheduled (webAt F Q) → Reached
+    smallest-period : (Q : ℕ) → Scheduled (webAt F Q) → Reached
     smallest-period Q s = counted-up Q floor (omega arith) [] refl (scheduled-later F law Q (floor + Q) (omega arith) s)
 
     -- No period has a schedule, or some have and none up to the ceiling, or there is a smallest one, with its least schedule.

@@ -76,7 +76,7 @@ module _ {E : Type 0} (tail head : E → ℕ) where
       omega arith
 
 -- f (k - 1), .., f 0
-abbrev pub downs : (ℕ → ℕ) → ℕ → List ℕ
+abbrev downs : (ℕ → ℕ) → ℕ → List ℕ
 downs f zero = []
 downs f (suc k) = f k ∷ downs f k
 
@@ -84,7 +84,7 @@ downs f (suc k) = f k ∷ downs f k
 abbrev pub Apart : List ℕ → Type 0
 Apart l = Once (λ u. u) (λ u. u) l
 
-pub downs-all : (P : ℕ → Type 0) (f : ℕ → ℕ) (k : ℕ) → ((j : ℕ) → j < k → P (f j)) → All P (downs f k)
+downs-all : (P : ℕ → Type 0) (f : ℕ → ℕ) (k : ℕ) → ((j : ℕ) → j < k → P (f j)) → All P (downs f k)
 downs-all P f zero h = tt
 downs-all P f (suc k) h = (h k (omega arith), downs-all P f k (λ j q. h j (omega arith)))
 
@@ -92,7 +92,7 @@ pub downs-apart : (f : ℕ → ℕ) (k : ℕ) → ((i j : ℕ) → i < j → j <
 downs-apart f zero h = tt
 downs-apart f (suc k) h = (downs-all (λ u. u ≢ f k) f k (λ i q. h i k q (omega arith)), downs-apart f k (λ i j p q. h i j p (omega arith)))
 
-pub downs-length : (f : ℕ → ℕ) (k : ℕ) → length (downs f k) ≡ k
+downs-length : (f : ℕ → ℕ) (k : ℕ) → length (downs f k) ≡ k
 downs-length f zero = refl
 downs-length f (suc k) = ap suc (downs-length f k)
 

@@ -15,19 +15,19 @@ use Rattle.loops.specs.Layout.{windows, fixedCount, ruleCount, ruleAt, p
 module _ (N : Network) where
   -- ---- the rule at each place
 
-  pub rule-low : (e : ℕ) → e < windows N → ruleAt N e ≡ Low (e + 1)
+  rule-low : (e : ℕ) → e < windows N → ruleAt N e ≡ Low (e + 1)
   unfolding ruleAt
   rule-low e h = rw (lt-ltb e (windows N))
 
-  pub rule-high : (e : ℕ) → windows N ≤ e → e < 2 * windows N → ruleAt N e ≡ High (e - windows N + 1)
+  rule-high : (e : ℕ) → windows N ≤ e → e < 2 * windows N → ruleAt N e ≡ High (e - windows N + 1)
   unfolding ruleAt
   rule-high e g h = rw (le-ltb e (windows N), lt-ltb e (2 * windows N))
 
-  pub rule-hold : (e : ℕ) → 2 * windows N ≤ e → e < fixedCount N → ruleAt N e ≡ Hold (e - 2 * windows N)
+  rule-hold : (e : ℕ) → 2 * windows N ≤ e → e < fixedCount N → ruleAt N e ≡ Hold (e - 2 * windows N)
   unfolding ruleAt
   rule-hold e g h = rw (le-ltb e (windows N) (omega arith), le-ltb e (2 * windows N), lt-ltb e (fixedCount N))
 
-  pub rule-setup : (e : ℕ) → fixedCount N ≤ e → ruleAt N e ≡ Setup (e - fixedCount N)
+  rule-setup : (e : ℕ) → fixedCount N ≤ e → ruleAt N e ≡ Setup (e - fixedCount N)
   unfolding ruleAt
   rule-setup e g = rw (le-ltb e (windows N) (omega arith), le-ltb e (2 * windows N) (omega arith), le-ltb e (fixedCount N))
 
@@ -53,7 +53,7 @@ module _ (N : Network) where
   rule-exists e b = rule-cases (Exists N) e (λ h. omega arith) (λ g h. omega arith) (λ g h. omega arith) (λ g. omega arith)
 
   -- the prefix holds no setup rule
-  pub rule-fixed : (e : ℕ) → e < fixedCount N → IsFixed (ruleAt N e)
+  rule-fixed : (e : ℕ) → e < fixedCount N → IsFixed (ruleAt N e)
   rule-fixed e b = rule-cases IsFixed e (λ h. tt) (λ g h. tt) (λ g h. tt) (λ g. absurd (omega arith))
 
   -- a rule stands at its place
@@ -70,7 +70,7 @@ module _ (N : Network) where
   place-below (High i) h = omega arith
 
   -- and in the prefix where it is no setup rule
-  pub place-fixed : (r : Rule) → Exists N r → IsFixed r → placeOf N r < fixedCount N
+  place-fixed : (r : Rule) → Exists N r → IsFixed r → placeOf N r < fixedCount N
   place-fixed (Setup p) h z = absurd z
   place-fixed (Hold p) h z = omega arith
   place-fixed (Low i) h z = omega arith

@@ -24,7 +24,7 @@ use Rattle.loops.proofs.Settle.{settled-tight}
 use Rattle.loops.proofs.Ends.{gap-falls}
 
 -- what one more round may come to
-pub relax-cases : (P : Ending → Type 0) (Γ : Arrows) (fuel : ℕ) (a : List ℤ) (p : List ℕ)
+relax-cases : (P : Ending → Type 0) (Γ : Arrows) (fuel : ℕ) (a : List ℤ) (p : List ℕ)
     → (round Γ a p .raised ≡ false → P (Rested (rowAfter Γ a p)))
     → (round Γ a p .raised ≡ true → allRooted Γ (predsAfter Γ a p) ≡ true → P (relax Γ fuel (settled Γ (predsAfter Γ a p)) (predsAfter Γ a p)))
     → (round Γ a p .raised ≡ true → allRooted Γ (predsAfter Γ a p) ≡ false → P (Circled (circleArrows Γ (predsAfter Γ a p) (stray Γ (predsAfter Γ a p)))))
@@ -51,7 +51,7 @@ Ended Γ Unended = ⊥
 
 module _ (Γ : Arrows) (a : List ℤ) (p : List ℕ) (s : Sound Γ) (t : Tight Γ a p) where
   -- nothing raised: the row is the least schedule
-  pub rested-ends : round Γ a p .raised ≡ false → Ended Γ (Rested (rowAfter Γ a p))
+  rested-ends : round Γ a p .raised ≡ false → Ended Γ (Rested (rowAfter Γ a p))
   rested-ends q = (tight-books Γ a p s t .row-length, rw (round-quiet Γ a p s t q .row-same) (rested-least Γ a p s t q))
 
   -- a register that is not rooted: the circle that the search finds is a contradicting loop, listed from its lowest register
@@ -81,7 +81,7 @@ ended-or Γ Unended h = absurd h
 
 module _ (Γ : Arrows) (low : ℕ → ℕ) (H : ℕ) (s : Sound Γ) (lows : Lows Γ low) (highs : Highs Γ H) where
   -- From the first row, with fuel enough.
-  pub first-ends : (none fuel : ℕ) → Γ .count ≤ none → gap Γ H (firstRow Γ low) < fuel → Ended Γ (relax Γ fuel (firstRow Γ low) (firstPreds Γ low none))
+  first-ends : (none fuel : ℕ) → Γ .count ≤ none → gap Γ H (firstRow Γ low) < fuel → Ended Γ (relax Γ fuel (firstRow Γ low) (firstPreds Γ low none))
   first-ends none fuel q g = relax-ends Γ H s highs fuel (firstRow Γ low) (firstPreds Γ low none) (first-tight Γ low none s lows q) g
 
   -- either there is a least schedule, or a loop that contradicts itself

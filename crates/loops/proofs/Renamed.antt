@@ -19,11 +19,11 @@ module _ {E F : Type 0} (tail head : E → ℕ) (tail′ head′ : F → ℕ) (g
   renamed-all P Q pass [] s h = tt
   renamed-all P Q pass (e ∷ l) s h = (pass e (s .0) (h .0), renamed-all P Q pass l (s .1) (h .1))
 
-  pub renamed-chain : (u v : ℕ) (l : List E) → All Alike l → Chain tail head u l v → Chain tail′ head′ u (map g l) v
+  renamed-chain : (u v : ℕ) (l : List E) → All Alike l → Chain tail head u l v → Chain tail′ head′ u (map g l) v
   renamed-chain u v [] s c = c
   renamed-chain u v (e ∷ l) s c = (sym (s .0 .tails) ∙ c .0, rw (← s .0 .heads) (renamed-chain (head e) v l (s .1) (c .1)))
 
-  pub renamed-once : (l : List E) → All Alike l → Once tail head l → Once tail′ head′ (map g l)
+  renamed-once : (l : List E) → All Alike l → Once tail head l → Once tail′ head′ (map g l)
   renamed-once [] s o = tt
   renamed-once (e ∷ l) s o = (
     renamed-all (λ f. tail f ≢ tail e) (λ f. tail′ f ≢ tail′ (g e)) (λ f a h q. h (a .tails ∙ q ∙ sym (s .0 .tails))) l (s .1) (o .0),

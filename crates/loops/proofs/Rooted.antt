@@ -22,7 +22,7 @@ module _ (Γ : Arrows) (p : List ℕ) where
     pub deep : Deep Γ p depth v
 
   -- where the test of d steps passes, the register lies at a depth of at most d
-  pub rooted-deep : (d v : ℕ) → rooted Γ p d v ≡ true → Within d v
+  rooted-deep : (d v : ℕ) → rooted Γ p d v ≡ true → Within d v
   unfolding rooted
   rooted-deep zero v = go (ltb (pred p v) (Γ .count)) refl
     where
@@ -66,7 +66,7 @@ module _ (Γ : Arrows) (p : List ℕ) where
   -- ---- all registers rooted, or one that is not
 
   -- where the test of the registers below n passes, it passes for each
-  pub all-rooted : (n : ℕ) → rootedBelow Γ p n ≡ true → (v : ℕ) → v < n → rooted Γ p (Γ .registers) v ≡ true
+  all-rooted : (n : ℕ) → rootedBelow Γ p n ≡ true → (v : ℕ) → v < n → rooted Γ p (Γ .registers) v ≡ true
   unfolding rootedBelow
   all-rooted zero h v q = absurd (omega arith)
   all-rooted (suc n) h v q = go (rootedBelow Γ p n) refl h (λ g. all-rooted n g v) (ℕ-discrete v n)
@@ -117,7 +117,7 @@ module _ (Γ : Arrows) (p : List ℕ) where
       failed e = rw (e, rootedBelow)
 
   -- the first that is not rooted is the stray register
-  pub stray-is : (n s : ℕ) → s < n → rootedBelow Γ p s ≡ true → rooted Γ p (Γ .registers) s ≡ false → strayBelow Γ p n ≡ s
+  stray-is : (n s : ℕ) → s < n → rootedBelow Γ p s ≡ true → rooted Γ p (Γ .registers) s ≡ false → strayBelow Γ p n ≡ s
   stray-is zero s q r h = absurd (omega arith)
   stray-is (suc n) s q r h = go (ℕ-discrete s n) (λ q. stray-is n s q r h)
     where
@@ -161,7 +161,7 @@ module _ (Γ : Arrows) (p : List ℕ) where
   pub grounded-all : Sound Γ → ((v : ℕ) → v < Γ .registers → Grounded Γ p v) → allRooted Γ p ≡ true
   grounded-all s h = rooted-below (Γ .registers) (λ v b. grounded-rooted s v b (h v b))
 
-  pub ungrounded : (v : ℕ) → ¬ Grounded Γ p v → rooted Γ p (Γ .registers) v ≡ false
+  ungrounded : (v : ℕ) → ¬ Grounded Γ p v → rooted Γ p (Γ .registers) v ≡ false
   ungrounded v n = go (rooted Γ p (Γ .registers) v) refl
     where
       go : (t : Bool) → rooted Γ p (Γ .registers) v ≡ t → rooted Γ p (Γ .registers) v ≡ false

@@ -140,7 +140,7 @@ module _ (Γ : Arrows) (a : List ℤ) (p : List ℕ) where
   -- ---- all arrows
 
   -- One arrow keeps the books: it raises its head to exactly what it asks and is noted there, or what it asks is met already.
-  pub step-books : Sound Γ → (i : ℕ) (t : Turn) → i < Γ .count → Books i t → Books (suc i) (step Γ a i t)
+  step-books : Sound Γ → (i : ℕ) (t : Turn) → i < Γ .count → Books i t → Books (suc i) (step Γ a i t)
   unfolding step
   step-books s i t q b = go (ltZ (at (t .row) (head Γ i)) (offered Γ a i)) refl
     where
@@ -158,7 +158,7 @@ module _ (Γ : Arrows) (a : List ℤ) (p : List ℕ) where
     loud = λ e. absurd (false≢true e);
   }
 
-  pub pass-books : Sound Γ → length a ≡ Γ .registers → length p ≡ Γ .registers → (i : ℕ) → i ≤ Γ .count → Books i (pass Γ a i (entered a p))
+  pass-books : Sound Γ → length a ≡ Γ .registers → length p ≡ Γ .registers → (i : ℕ) → i ≤ Γ .count → Books i (pass Γ a i (entered a p))
   unfolding pass
   pass-books s la lp zero q = start-books la lp
   pass-books s la lp (suc i) q = step-books s i (pass Γ a i (entered a p)) q (pass-books s la lp i (omega arith))

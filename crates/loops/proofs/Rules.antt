@@ -69,10 +69,10 @@ module _ (N : Network) where
     λ s. record { host = s .host; meets = λ r h. arrow-is-rule N P x r (s .host) .0 (s .meets r h) },
   )
 
-  pub scheduled-rules : (P : ℕ) → webs.Scheduled (webAt (rules N) P) ↔ Scheduled N P
+  scheduled-rules : (P : ℕ) → webs.Scheduled (webAt (rules N) P) ↔ Scheduled N P
   scheduled-rules P = (λ s. (s .0, schedule-rules P (s .0) .0 (s .1)), λ s. (s .0, schedule-rules P (s .0) .1 (s .1)))
 
-  pub least-rules : (P : ℕ) (x : ℕ → ℤ) → webs.Least (webAt (rules N) P) x → LeastSchedule N P x
+  least-rules : (P : ℕ) (x : ℕ → ℤ) → webs.Least (webAt (rules N) P) x → LeastSchedule N P x
   least-rules P x s = record { schedule = schedule-rules P x .0 (s .schedule); least = λ y t. s .least y (schedule-rules P y .1 t) }
 
   -- a schedule at P is one at every longer period

@@ -19,7 +19,7 @@ use Rattle.loops.proofs.Rooted.{unrooted-arrows}
 
 module _ (Γ : Arrows) (p : List ℕ) where
   -- what a step around may find
-  pub around-cases : (P : ℕ → Type 0) (s m k v : ℕ) → (Γ .count ≤ pred p v → P 0) → (pred p v < Γ .count → tail Γ (pred p v) ≡ s → P (suc k))
+  around-cases : (P : ℕ → Type 0) (s m k v : ℕ) → (Γ .count ≤ pred p v → P 0) → (pred p v < Γ .count → tail Γ (pred p v) ≡ s → P (suc k))
       → (pred p v < Γ .count → tail Γ (pred p v) ≢ s → P (around Γ p s m (suc k) (tail Γ (pred p v))))
       → P (around Γ p s (suc m) k v)
   unfolding around

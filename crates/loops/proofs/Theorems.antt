@@ -18,7 +18,7 @@ use Rattle.loops.proofs.NeedLaws.{answer-greatest-need, greatest-need-a
 -- of every network: a schedule at P is one at every longer period
 pub use Rattle.loops.proofs.Rules.{scheduled-stays}
 
-pub accepted-joined : (f : List ℕ) → Accepted f → Joined (networkOf f)
+accepted-joined : (f : List ℕ) → Accepted f → Joined (networkOf f)
 accepted-joined f a = legal-joined (networkOf f) (accepted-legal f a)
 
 -- For every period from 1 up, a schedule exists exactly when no loop contradicts itself. Adding a schedule's inequalities around a loop

@@ -12,7 +12,7 @@ use Rattle.loops.specs.Model.{at, pred}
 use Rattle.loops.specs.Forest.{Deep, Grounded, Forest, Tight}
 
 -- Where every register had a pred, none would be grounded: so the host has none.
-pub fed-not-grounded : (Γ : Arrows) (p : List ℕ) → Sound Γ → ((v : ℕ) → v < Γ .registers → pred p v < Γ .count) → (d v : ℕ) → v < Γ .registers
+fed-not-grounded : (Γ : Arrows) (p : List ℕ) → Sound Γ → ((v : ℕ) → v < Γ .registers → pred p v < Γ .count) → (d v : ℕ) → v < Γ .registers
     → ¬ Deep Γ p d v
 fed-not-grounded Γ p s fed zero v b h = omega (arith, fed v b)
 fed-not-grounded Γ p s fed (suc d) v b h = fed-not-grounded Γ p s fed d (tail Γ (pred p v)) (s .leaves (pred p v) (h .0)) (h .1)

@@ -19,7 +19,7 @@ Leads Γ p k v = (j : ℕ) → j < k → head Γ (pred p (back Γ p j v)) ≡ ba
 
 module _ (Γ : Arrows) (p : List ℕ) where
   -- what holds of every pred on the way holds of all arrows of the trail
-  pub trail-all : (P : ℕ → Type 0) (k v : ℕ) → ((j : ℕ) → j < k → P (pred p (back Γ p j v))) → All P (trail Γ p k v)
+  trail-all : (P : ℕ → Type 0) (k v : ℕ) → ((j : ℕ) → j < k → P (pred p (back Γ p j v))) → All P (trail Γ p k v)
   unfolding trail
   trail-all P zero v h = tt
   trail-all P (suc k) v h = (h k (omega arith), trail-all P k v (λ j q. h j (omega arith)))
@@ -30,7 +30,7 @@ module _ (Γ : Arrows) (p : List ℕ) where
   trail-length (suc k) v = ap suc (trail-length k v)
 
   -- where each pred on the way leads into its register, the arrows are a chain from the register k steps back
-  pub trail-chain : (k v : ℕ) → Leads Γ p k v → Chain (tail Γ) (head Γ) (back Γ p k v) (trail Γ p k v) v
+  trail-chain : (k v : ℕ) → Leads Γ p k v → Chain (tail Γ) (head Γ) (back Γ p k v) (trail Γ p k v) v
   unfolding trail back
   trail-chain zero v into = refl
   trail-chain (suc k) v into =
@@ -38,7 +38,7 @@ module _ (Γ : Arrows) (p : List ℕ) where
       (refl, subst (λ u. Chain (tail Γ) (head Γ) u (trail Γ p k v) v) (sym (into k (omega arith))) rest)
 
   -- Where two registers of the way are the same, going on from both for the rest of the circle comes to its start too early.
-  pub circle-apart : (k s : ℕ) → Circle Γ p k s → (i j : ℕ) → i < j → j ≤ k → 0 < (k - j) + i → back Γ p i s ≢ back Γ p j s
+  circle-apart : (k s : ℕ) → Circle Γ p k s → (i j : ℕ) → i < j → j ≤ k → 0 < (k - j) + i → back Γ p i s ≢ back Γ p j s
   circle-apart k s c i j q r z e =
       let whole : (k - j) + j ≡ k = omega arith in
       let on : back Γ p ((k - j) + i) s ≡ back Γ p ((k - j) + j) s = back-add Γ p (k - j) i s ∙ ap (λ u. back Γ p (k - j) u) e ∙ sym (back-add Γ p (k - j) j s) in

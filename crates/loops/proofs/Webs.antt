@@ -9,7 +9,7 @@ use Rattle.whole.specs.Sums.{total}
 use Rattle.whole.proofs.Lin.{lin, plus}
 use Rattle.paper.specs.Chains.{All, Listed}
 use Rattle.paper.proofs.LoopLaws.{all-map, loop-binds}
-use Rattle.loops.specs.Webs.{Web, Schedule, Scheduled, Contradicts, Within}
+use Rattle.loops.specs.Webs.{Web, Schedule, Contradicts, Within}
 use Rattle.loops.proofs.Renamed.{Alike, renamed-all, renamed-loop, renamed-listed}
 
 -- Adding a schedule's inequalities around a loop: its amounts add up to at most 0.
@@ -29,9 +29,6 @@ module _ {D E : Type 0} (W : Web D) (U : Web E) (name : D → E) (i : Within W U
           let met = s .meets (name e) (i .here e h) in
           let less = i .asked e h in
           rw (i .tails e h, i .heads e h) (omega lin)
-
-  pub within-scheduled : Scheduled U → Scheduled W
-  within-scheduled s = (s .0, within-schedule (s .0) (s .1))
 
   alike : (e : D) → W .Here e → Alike (W .leaves) (W .reaches) (U .leaves) (U .reaches) name e
   alike e h = record { tails = i .tails e h; heads = i .heads e h }

@@ -39,7 +39,7 @@ module _ (Γ : Arrows) (p : List ℕ) where
       worth-next d v (h .0) ∙ ap (λ z. z +ℤ amount Γ (pred p v)) (worth-deep e d (tail Γ (pred p v)) (h .1) (omega arith)) ∙ sym (worth-next e v (h .0))
 
   -- so a register stands at what its pred asks
-  pub worth-exact : (e d v : ℕ) → Deep Γ p e v → e ≤ d → pred p v < Γ .count → worth Γ p d v ≡ (worth Γ p d (tail Γ (pred p v)) +ℤ amount Γ (pred p v))
+  worth-exact : (e d v : ℕ) → Deep Γ p e v → e ≤ d → pred p v < Γ .count → worth Γ p d v ≡ (worth Γ p d (tail Γ (pred p v)) +ℤ amount Γ (pred p v))
   worth-exact zero d v h q a = absurd (omega arith)
   worth-exact (suc e) d v h q a =
       worth-deep (suc e) d v h q ∙ worth-next e v (h .0) ∙ ap (λ z. z +ℤ amount Γ (pred p v)) (sym (worth-deep e d (tail Γ (pred p v)) (h .1) (omega arith)))

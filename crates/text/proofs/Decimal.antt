@@ -99,7 +99,7 @@ digits-append [] d t h = (omega arith, omega arith, tt)
 digits-append (x ∷ l) d t h = (t .0, t .1, digits-append l d (t .2) h)
 
 -- a number is written in digits alone
-pub decimal-digits : (n : ℕ) → Digits (decimal n)
+decimal-digits : (n : ℕ) → Digits (decimal n)
 decimal-digits =
     by-digits (λ n l. Digits l)
     (λ n h. (omega arith, omega arith, tt))
@@ -126,7 +126,7 @@ whole-tells (negsuc m) (negsuc n) e =
 -- ---- how many digits
 
 -- 10 to the power of k
-abbrev pub tens : ℕ → ℕ
+abbrev tens : ℕ → ℕ
 tens zero = 1
 tens (suc k) = 10 * tens k
 
