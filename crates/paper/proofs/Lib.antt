@@ -2,6 +2,7 @@
 pub mod Legal
 pub mod RuleLaws
 pub mod LoopLaws
+pub mod ListedLaws
 pub mod TableLaws
 pub mod NumberLaws
 pub mod OutputLaws

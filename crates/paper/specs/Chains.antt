@@ -1,7 +1,7 @@
 -- Chains and loops of arrows, whatever an arrow is: all that is asked of one is the register that it leaves (`tail`) and the register
 -- that it reaches (`head`). The paper's arrows are its rules; the code's are places in its lists.
 use mathlib.Core.Path.{_≡_}
-use mathlib.Core.Logic.{_≢_}
+use mathlib.Core.Logic.{_≢_, _⊎_}
 use mathlib.Core.List.{List, [], _∷_}
 use Prim.Native.Nat.{ℕ, _≤_}
 
@@ -9,6 +9,16 @@ use Prim.Native.Nat.{ℕ, _≤_}
 abbrev pub All : {E : Type 0} → (E → Type 0) → List E → Type 0
 All P [] = Unit {0}
 All P (e ∷ l) = P e × All P l
+
+-- e is a member
+abbrev pub In : {E : Type 0} → E → List E → Type 0
+In e [] = ⊥
+In e (f ∷ l) = (e ≡ f) ⊎ In e l
+
+-- the same members, in whatever order
+pub record SameMembers {E : Type 0} (l m : List E) : Type 0 where
+  pub there : (e : E) → In e l → In e m
+  pub back : (e : E) → In e m → In e l
 
 module _ {E : Type 0} (tail head : E → ℕ) where
   -- the first arrow leaves u, each later one leaves the register that the one before reaches, and the last reaches v

@@ -34,6 +34,11 @@ entryRecords (r ∷ l) = entryRecord r ++ entryRecords l
 abbrev pub Front : List ℕ → List ℕ → List ℕ → Type 0
 Front bytes before after = after ≡ bytes ++ drop (length bytes) before
 
+-- the output of an answer: its period, the latencies of n registers, and a loop, which may be of no entries
+abbrev pub AnswerOutput : ℕ → ℕ → (ℕ → ℤ) → List Rule → List ℕ → List ℕ → Type 0
+AnswerOutput n period latency loop before after =
+    Front (skewRecord period n (length loop) ++ latencyRecords latency n ++ entryRecords loop) before after
+
 -- | 0 | answered | period, n latencies, loop |
 pub record Answered (N : Network) (before after : List ℕ) : Type 0 where
   pub period : ℕ
@@ -41,7 +46,7 @@ pub record Answered (N : Network) (before after : List ℕ) : Type 0 where
   pub loop : List Rule
   pub answer : Answer N period latency
   pub shown : Shown N period loop
-  pub bytes : Front (skewRecord period (N .registers) (length loop) ++ latencyRecords latency (N .registers) ++ entryRecords loop) before after
+  pub bytes : AnswerOutput (N .registers) period latency loop before after
 
 -- `SK` 0, 0, count, and the loop
 abbrev pub LoopAlone : List Rule → List ℕ → List ℕ → Type 0
