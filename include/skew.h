@@ -16,7 +16,8 @@
 extern "C" {
 #endif
 
-/* The numbers. The lowest one that applies is returned.
+/* The numbers, in the words of a caller; docs/RULES.md has them in full (RULES 6.2). Of those from 1 on that apply, the lowest is
+ * returned, and 0 where none applies (RULES 6.3).
  *
  *  number              given exactly when                                place                 output
  */

@@ -18,7 +18,7 @@ impl Draft {
         self.registers.len() as i32
     }
 
-    /// The room the paper requires for this network's answer.
+    /// The room that this network's answer must have (RULES 7.1).
     pub fn room(&self) -> i32 {
         14 + 16 * self.n()
     }

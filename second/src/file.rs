@@ -1,4 +1,4 @@
-//! Reading a network file: an accepted network, or the refusal (1 to 6) the paper's table names.
+//! Reading a network file: an accepted network, or the refusal (1 to 6) that the table of RULES 6.2 names.
 
 use crate::paper::*;
 

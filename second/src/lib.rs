@@ -1,7 +1,8 @@
 //! A second, independent program for clock skew scheduling.
 //!
 //! It reads the same network files as the module it is compared with, solves them by other algorithms, writes
-//! streams of requests, and judges the answers to them byte by byte. Nothing in it is shared with that module.
+//! streams of requests, and judges the answers to them byte by byte. Nothing in it is shared with that module but the
+//! rules, docs/RULES.md, which are called the paper.
 
 #![forbid(unsafe_code)]
 

@@ -1,4 +1,4 @@
-//! The network and its four rules, as the paper's first table writes them.
+//! The network and its four rules, as the table of RULES 2.2 writes them.
 //!
 //! Every time is an `i64`, far wider than the file's four bytes, so that no sum of the judge's can overflow.
 
@@ -127,7 +127,7 @@ impl Network {
         }
     }
 
-    /// The rule's inequality as the paper writes it, with the latencies named by where they stand on the arrow.
+    /// The rule's inequality (RULES 8.5), with the latencies named by where they stand on the arrow.
     /// Low and high do not read the host's latency, so they are not the arrow form with 0 put in by the caller.
     pub fn is_met(&self, rule: Rule, period: i64, at_tail: i64, at_head: i64) -> bool {
         let u = self.uncertainty;

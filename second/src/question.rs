@@ -1,4 +1,4 @@
-//! The second public question: is the named rule met by these latencies?
+//! The rule question (RULES 8.1): is the named rule met by these latencies?
 
 use crate::file;
 use crate::paper::{LATENCY_MOST, PERIOD_MOST};

@@ -2,7 +2,7 @@
 
 use crate::paper::{Kind, Network, Rule};
 
-/// Whether the entries (kind, number) are a loop of the network, listed as the paper asks, that contradicts itself
+/// Whether the entries (kind, number) are a loop of the network, listed as RULES 7.9 asks, that contradicts itself
 /// at the period. The fault is told in words.
 pub fn judge(network: &Network, entries: &[(i32, i32)], period: i64) -> Result<Vec<Rule>, String> {
     let mut rules = Vec::with_capacity(entries.len());

@@ -1,4 +1,4 @@
-//! The easy errors of this trade, one program each. A judge that does not catch them is no judge.
+//! The easy errors of this trade (RULES 12.1), one program each. A judge that does not catch them is no judge.
 //!
 //! All of them, and the right program beside them, use the fast solver, while the judge uses the plain one wherever
 //! that is quick enough: so a clean run of the right program is also a comparison of the two solvers.

@@ -262,7 +262,7 @@ fn every_wrong_program_fails_the_worked_case_named_for_it() {
     }
 }
 
-/// The numbers the paper gives for three of the errors.
+/// What RULES 12.1 says of four of the errors.
 #[test]
 fn the_wrong_programs_err_as_the_paper_says() {
     use second::wrong::{self, Slip::*};

@@ -1,3 +1,4 @@
 pub mod Lines
 pub mod Answers
+pub mod Texts
 pub mod Sample

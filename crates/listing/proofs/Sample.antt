@@ -19,6 +19,8 @@ answerOfA =
     ++ latencyRecord (pos 0) ++ latencyRecord (pos 1) ++ latencyRecord (negsuc 0)
     ++ entryRecord (Rule.Setup 0) ++ entryRecord (Rule.Hold 0)
 
+-- RULES 11.2: "For A `skewlist` prints:"
+--
 -- period 9
 -- latency 0 0
 -- latency 1 1
@@ -26,15 +28,19 @@ answerOfA =
 -- loop 8
 -- setup 0
 -- hold 0
-pub listing-of-A : (ceiling : ℤ) (rest : List ℕ) → textOf ceiling outcome.Answered (answerOfA ++ rest)
-    ≡ 112 ∷ 101 ∷ 114 ∷ 105 ∷ 111 ∷ 100 ∷ 32 ∷ 57 ∷ 10
+unfoldable pub linesOfA : List ℕ
+linesOfA =
+    112 ∷ 101 ∷ 114 ∷ 105 ∷ 111 ∷ 100 ∷ 32 ∷ 57 ∷ 10
     ∷ 108 ∷ 97 ∷ 116 ∷ 101 ∷ 110 ∷ 99 ∷ 121 ∷ 32 ∷ 48 ∷ 32 ∷ 48 ∷ 10
     ∷ 108 ∷ 97 ∷ 116 ∷ 101 ∷ 110 ∷ 99 ∷ 121 ∷ 32 ∷ 49 ∷ 32 ∷ 49 ∷ 10
     ∷ 108 ∷ 97 ∷ 116 ∷ 101 ∷ 110 ∷ 99 ∷ 121 ∷ 32 ∷ 50 ∷ 32 ∷ 45 ∷ 49 ∷ 10
     ∷ 108 ∷ 111 ∷ 111 ∷ 112 ∷ 32 ∷ 56 ∷ 10
     ∷ 115 ∷ 101 ∷ 116 ∷ 117 ∷ 112 ∷ 32 ∷ 48 ∷ 10
     ∷ 104 ∷ 111 ∷ 108 ∷ 100 ∷ 32 ∷ 48 ∷ 10 ∷ []
-unfolding answerOfA answeredText latencyLines entryLines kindWord digits decimal whole numberAt wordAt signedOf wordOf bytesOf four
+
+-- the listing of these bytes
+pub listing-of-A : (ceiling : ℤ) (rest : List ℕ) → textOf ceiling outcome.Answered (answerOfA ++ rest) ≡ linesOfA
+unfolding answerOfA linesOfA answeredText latencyLines entryLines kindWord digits decimal whole numberAt wordAt signedOf wordOf bytesOf four
 listing-of-A ceiling rest = refl
 
 -- refused 6 1027

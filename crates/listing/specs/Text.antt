@@ -1,8 +1,13 @@
 -- The text of a listing.
 --
--- "decimal lines, each ended by one newline: `period` P; `latency` register value, for each register; and if there is a loop, `loop` with
--- the period at which it contradicts itself, then a line for each entry, kind name and number. For a refusal: `refused` number place, and
--- for 8 and 9 the `loop` line with the ceiling and the entries."
+-- RULES 9.1: "prints lines, with numbers in decimal. Each line ends with one newline."
+-- RULES 9.2:
+-- | `period` and the period | once |
+-- | `latency`, the register's number and its latency | for each register, register 0 first |
+-- | `loop` and the period at which the loop contradicts itself, which is the answer's less 1 | once, if there is a loop |
+-- | the name of the kind (`setup`, `hold`, `low` or `high`) and the rule's number | for each entry of the loop, in its order |
+-- RULES 9.3: "Of a refusal it prints `refused`, the number and the place. After 8 and 9 there follow the `loop` line, with the ceiling, and a
+-- line for each entry as above."
 use mathlib.Core.List.{List, [], _∷_, _++_}
 use mathlib.Core.Bool.{cond}
 use Prim.Native.Nat.{ℕ, zero, suc, _+_, _*_}

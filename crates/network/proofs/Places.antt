@@ -1,15 +1,15 @@
--- Where an accepted file has its records, and that its header's floor and ceiling are the network's. Rests on `Legal` of `paper`.
+-- Where an accepted file has its records, and that its header's floor and ceiling are the network's. Rests on `Legal` and `Naturals` of `paper`.
 use mathlib.Core.Path.{_≡_, sym}
 use mathlib.Core.List.{List}
 use Prim.Native.Nat.{ℕ, _+_, _*_, _≤_, _<_}
 use native.Mathlib.Omega.{arith}
 use lib.IntN.{pos}
 use lib.ListN.{length}
-use Rattle.whole.proofs.Lin.{lin}
 use Rattle.whole.specs.Four.{numberAt}
-use Rattle.paper.specs.File.{ranged, registerPlace, networkOf}
+use Rattle.paper.specs.File.{registerPlace, networkOf}
 use Rattle.paper.specs.Refusals.{Accepted}
-use Rattle.paper.proofs.Legal.{passes, accepted-length, ranges-passed, natural-is}
+use Rattle.paper.proofs.Legal.{accepted-length}
+use Rattle.paper.proofs.Naturals.{accepted-read}
 
 module _ (f : List ℕ) (a : Accepted f) where
   -- the header, and each record, lies within the file
@@ -28,17 +28,8 @@ module _ (f : List ℕ) (a : Accepted f) where
 
   -- floor and ceiling stand in the header
   pub floor-is : numberAt f 10 ≡ pos (networkOf f .floor)
-  unfolding networkOf
-  floor-is =
-      let r = ranges-passed f (passes (ranged f) (a .1 .1 .1 .0)) in
-      let b = r .in-floor .from in
-      sym (natural-is _ (omega lin))
+  floor-is = sym (accepted-read f a .floor-is)
 
   -- the number at byte 14 is the network's ceiling
   pub ceiling-is : numberAt f 14 ≡ pos (networkOf f .ceiling)
-  unfolding networkOf
-  ceiling-is =
-      let r = ranges-passed f (passes (ranged f) (a .1 .1 .1 .0)) in
-      let b = r .in-floor .from in
-      let t = r .in-ceiling .from in
-      sym (natural-is _ (omega lin))
+  ceiling-is = sym (accepted-read f a .ceiling-is)

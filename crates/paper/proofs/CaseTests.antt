@@ -30,13 +30,13 @@ use Rattle.paper.proofs.Tests.{Test, via, pair, nothing, never, isTrue,
 
 -- ---- an accepted file
 
-abbrev passing : (ok : Bool) → Test ((p : ℕ) → Fails ok p → ⊥)
+abbrev pub passing : (ok : Bool) → Test ((p : ℕ) → Fails ok p → ⊥)
 passing ok = via (passed {ok = ok}) (isTrue ok)
 
-abbrev all-passing : (ok : ℕ → Bool) (n : ℕ) → Test ((p : ℕ) → Lowest ok n p → ⊥)
+abbrev pub all-passing : (ok : ℕ → Bool) (n : ℕ) → Test ((p : ℕ) → Lowest ok n p → ⊥)
 all-passing ok n = via (all-passed {ok = ok} {n = n}) (below (λ i. ok i ≡ true) (λ i. isTrue (ok i)) n)
 
-abbrev acceptedTest : (f : List ℕ) → Test (Accepted f)
+abbrev pub acceptedTest : (f : List ℕ) → Test (Accepted f)
 acceptedTest f =
     pair (passing (headed f))
     (pair (passing (counted f))
@@ -47,7 +47,7 @@ acceptedTest f =
 -- ---- loops and schedules of a network
 
 module _ (N : Network) where
-  abbrev existsTest : (r : Rule) → Test (Exists N r)
+  abbrev pub existsTest : (r : Rule) → Test (Exists N r)
   existsTest (Setup p) = less p (N .paths)
   existsTest (Hold p) = less p (N .paths)
   existsTest (Low i) = pair (less 0 i) (less i (N .registers))
@@ -74,7 +74,7 @@ module _ (N : Network) where
   refutes P l h =
       record { is-loop = record { exist = h .0 .0; loop = h .0 .1 }; listed = h .1 .0; contradicts = h .1 .1 }
 
-  abbrev refutesTest : (P : ℕ) (l : List Rule) → Test (Refutes N P l)
+  abbrev pub refutesTest : (P : ℕ) (l : List Rule) → Test (Refutes N P l)
   refutesTest P l =
       via (refutes P l)
       (pair (pair (every _ existsTest l) (loopTest l)) (pair (listedTest l) (lessℤ (pos 0) (total (amount N P) l))))
@@ -103,7 +103,7 @@ module _ (N : Network) where
   pub schedule : (P : ℕ) (x : ℕ → ℤ) → ((x 0 ≤ℤ pos 0) × (pos 0 ≤ℤ x 0)) × ((r : Rule) → Exists N r → Holds N P x r) → Schedule N P x
   schedule P x h = let a = h .0 .0 in let b = h .0 .1 in record { host = omega lin; meets = h .1 }
 
-  abbrev scheduleTest : (P : ℕ) (x : ℕ → ℤ) → Test (Schedule N P x)
+  abbrev pub scheduleTest : (P : ℕ) (x : ℕ → ℤ) → Test (Schedule N P x)
   scheduleTest P x =
       via (schedule P x)
       (pair (pair (atMostℤ (x 0) (pos 0)) (atMostℤ (pos 0) (x 0)))
@@ -118,7 +118,7 @@ module _ (N : Network) where
   abbrev climbTest : (P : ℕ) (z : ℤ) (i : ℕ) (l : List Rule) → Test (Climb P z i l)
   climbTest P z i l = pair (pair (every _ existsTest l) (chainTest 0 l i)) (atMostℤ z (total (amount N P) l))
 
-  -- "the smallest latency each register has over all schedules at that P"
+  -- RULES 3.2: "The latency of a register is the smallest that it has in any schedule at this P."
   climbs-least : (P : ℕ) (z : ℤ) (i : ℕ) (l : List Rule) → Climb P z i l → (y : ℕ → ℤ) → Schedule N P y → z ≤ℤ y i
   climbs-least P z i l c y s =
       let up = chain-binds-schedule N P y s l 0 i (c .0 .0) (c .0 .1) in
@@ -130,7 +130,8 @@ module _ (N : Network) where
   shownTest P [] = same P (N .floor)
   shownTest P (r ∷ l) = pair (less (N .floor) P) (refutesTest (P - 1) (r ∷ l))
 
-  -- so "the smallest whole P from floor to ceiling": where a loop is shown, no period from the floor on below P has a schedule
+  -- so RULES 3.2: "the smallest whole P from the floor to the ceiling": where a loop is shown, no period from the floor on below P has a
+  -- schedule
   shown-smallest : (P : ℕ) (l : List Rule) → Shown N P l → (Q : ℕ) → N .floor ≤ Q → Q < P → (y : ℕ → ℤ) → Schedule N Q y → ⊥
   shown-smallest P [] e Q f h y s = omega arith
   shown-smallest P (r ∷ l) e Q f h y s = no-schedule N (P - 1) Q (r ∷ l) (e .1) (omega arith) y s
@@ -144,7 +145,7 @@ pub record Witness : Type 0 where
   pub period : ℕ
   pub latencies : List ℤ
 
-abbrev rowOf : List ℤ → ℕ → ℤ
+abbrev pub rowOf : List ℤ → ℕ → ℤ
 rowOf latencies i = getD latencies i (pos 0)
 
 module _ (N : Network) (w : Witness) where
@@ -202,7 +203,7 @@ module _ (N : Network) (w : Witness) where
       via (ceiling-comes loop)
       (pair (refutesTest N (N .ceiling) loop) (pair (atMost 1 (w .period)) (scheduleTest N (w .period) (rowOf (w .latencies)))))
 
--- "given exactly when": what comes of an accepted file fixes the number that is returned
+-- what comes of an accepted file fixes the number that is returned (RULES 6.3)
 module _ (f : List ℕ) (a : Accepted f) (room : ℕ) (enough : 14 + 16 * networkOf f .registers ≤ room) where
   roomy : (p : ℕ) → Fails (leb (14 + 16 * networkOf f .registers) room) p → ⊥
   roomy = passed (le-leb _ _ enough)

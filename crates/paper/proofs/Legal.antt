@@ -1,6 +1,6 @@
 -- What an accepted file says of its network: every field lies in its range. All that later proofs need of 'accepted' is here, once. Rests
 -- on the definitions of the file alone.
-use mathlib.Core.Path.{_≡_, refl}
+use mathlib.Core.Path.{_≡_, refl, ap₂}
 use mathlib.Core.List.{List}
 use mathlib.Core.Bool.{Bool, true, false, _&&_}
 use Prim.Native.Nat.{ℕ, zero, suc, _+_, _*_, _≤_, _<_}
@@ -27,6 +27,7 @@ pub both : (a b : Bool) → a && b ≡ true → (a ≡ true) × (b ≡ true)
 both true b e = (refl, e)
 both false b e = absurd (true-not-false e refl)
 
+-- a number that passes the test lies between its ends
 pub within-is : (low high z : ℤ) → within low high z ≡ true → Between low high z
 unfolding within
 within-is low high z e =
@@ -34,6 +35,16 @@ within-is low high z e =
     let a = p .0 in
     let b = p .1 in
     record { from = omega lin; to = omega lin }
+
+-- and a number between two others passes the test
+pub is-within : (low high z : ℤ) → Between low high z → within low high z ≡ true
+unfolding within
+is-within low high z b =
+    let f = b .from in
+    let t = b .to in
+    let p : leZ low z ≡ true = omega lin in
+    let q : leZ z high ≡ true = omega lin in
+    ap₂ (λ a c. a && c) p q
 
 -- a number from 0 up is the natural number that it counts
 pub natural-is : (z : ℤ) → pos 0 ≤ℤ z → pos (natural z) ≡ z
@@ -60,7 +71,7 @@ module _ (ok : ℕ → Bool) (n : ℕ) (none : (p : ℕ) → Lowest ok n p → �
   pass-below (suc k) l q g = pass-more k l (pass-below k (omega arith)) q g (decLt q k)
 
   -- where no record is the lowest faulty one, every record passes
-  all-pass : (p : ℕ) → p < n → ok p ≡ true
+  pub all-pass : (p : ℕ) → p < n → ok p ≡ true
   all-pass p l = pass-below n (omega arith) p l
 
 -- ---- every field in its range
@@ -122,7 +133,7 @@ pub record PathPassed (f : List ℕ) (p : ℕ) : Type 0 where
   pub in-dmax : Between (numberAt f (pathPlace f p + 10)) (pos 1000000) (numberAt f (pathPlace f p + 14))
 
 -- a path record that passes
-path-passed : (f : List ℕ) (p : ℕ) → pathOk f p ≡ true → PathPassed f p
+pub path-passed : (f : List ℕ) (p : ℕ) → pathOk f p ≡ true → PathPassed f p
 unfolding pathOk
 path-passed f p e =
     let d = both _ _ e in
@@ -140,7 +151,7 @@ path-passed f p e =
 -- ---- the whole network
 
 -- the two counts of a header that passes
-header-passed : (f : List ℕ) → counted f ≡ true → Between (pos 1) (pos 256) (numberAt f 2) × Between (pos 0) (pos 2048) (numberAt f 6)
+pub header-passed : (f : List ℕ) → counted f ≡ true → Between (pos 1) (pos 256) (numberAt f 2) × Between (pos 0) (pos 2048) (numberAt f 6)
 unfolding counted
 header-passed f e = let p = both _ _ e in (within-is _ _ _ (p .0), within-is _ _ _ (p .1))
 
@@ -201,7 +212,7 @@ accepted-legal f a =
       uncertainty = λ p l. ranges .in-uncertainty;
     }
 
--- "The greatest file is 41,494 bytes."
+-- RULES 5.5: "the length is 22 + 18(n + m) bytes, and the greatest file has 41,494"
 pub accepted-most : (f : List ℕ) → Accepted f → length f ≤ 41494
 unfolding networkOf
 accepted-most f a =

@@ -3,9 +3,17 @@ pub mod Legal
 pub mod RuleLaws
 pub mod LoopLaws
 pub mod ListedLaws
+pub mod Cut
+pub mod Naturals
 pub mod TableLaws
 pub mod NumberLaws
 pub mod OutputLaws
+pub mod Greatest
 pub mod Tests
 pub mod CaseTests
 pub mod WorkedCases
+pub mod CaseBytes
+pub mod Refusing
+pub mod RejectionTests
+pub mod RejectedCases
+pub mod RejectedQuestionCases

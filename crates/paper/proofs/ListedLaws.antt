@@ -13,7 +13,7 @@ all-in P e [] a i = absurd i
 all-in P e (f ∷ l) a (inl is) = rw is (a .0)
 all-in P e (f ∷ l) a (inr i) = all-in P e l (a .1) i
 
--- every member is one
+-- and what holds of each member holds of all
 pub in-all : {E : Type 0} (P : E → Type 0) (l : List E) → ((e : E) → In e l → P e) → All P l
 in-all P [] h = tt
 in-all P (e ∷ l) h = (h e (inl refl), in-all P l (λ f i. h f (inr i)))

@@ -31,7 +31,7 @@ pub all-map : {E : Type 0} {P Q : E → Type 0} → ((e : E) → P e → Q e) �
 all-map f [] h = tt
 all-map f (e ∷ l) h = (f e (h .0), all-map f l (h .1))
 
--- "the latency at the arrow's head is at least the latency at its tail plus the amount": of any kind of arrow, added up
+-- RULES 2.3: "the latency at the arrow's head .. is at least the latency at its tail .. plus the amount": of any kind of arrow, added up
 module _ {E : Type 0} (tail head : E → ℕ) (amount : E → ℤ) (x : ℕ → ℤ) where
   -- x meets arrow e
   abbrev pub Meets : E → Type 0
@@ -52,7 +52,7 @@ module _ {E : Type 0} (tail head : E → ℕ) (amount : E → ℤ) (x : ℕ → 
       let once = chain-binds (tail e) (e ∷ l) (tail e) h (c .0) in
       omega (lin, plus (amount e) (total amount l))
 
--- "passes each register at most once": at two places of a loop stand arrows that leave different registers
+-- RULES 4.1: "It passes each register at most once.": at two places of a loop stand arrows that leave different registers
 module _ {E : Type 0} (tail head : E → ℕ) where
   once-apart : (l : List E) → Once tail head l → (d : E) (i j : ℕ) → i < j → j < length l → tail (getD l j d) ≢ tail (getD l i d)
   once-apart [] o d i j h k = absurd (omega arith)
@@ -97,7 +97,7 @@ need-shifts a b k P some apart =
         omega (lin, negs (pos P))
 
 module _ (N : Network) where
-  -- "(sum of its amounts without the P terms)": each setup rule of a loop takes P off once
+  -- RULES 4.3: "the sum of its amounts without their P terms": each setup rule of a loop takes P off once
   pub total-at : (P : ℕ) (l : List Rule) → total (amount N P) l +ℤ pos (setups l * P) ≡ total (base N) l
   total-at P [] = omega lin
   total-at P (Setup p ∷ l) =
@@ -107,15 +107,14 @@ module _ (N : Network) where
   total-at P (Low i ∷ l) = let ih = total-at P l in omega (lin, plus (base N (Low i)) (total (amount N P) l))
   total-at P (High i ∷ l) = let ih = total-at P l in omega (lin, plus (base N (High i)) (total (amount N P) l))
 
-  -- "needs the period: .. rounded up to a whole number, also when that sum is negative": a loop with a setup rule contradicts itself at
-  -- exactly the periods below its need
+  -- RULES 4.5: "A loop with setup rules contradicts itself at exactly the whole periods below its need."
   pub contradicts-below-need : (P : ℕ) (l : List Rule) → 0 < setups l → Contradicts N P l ↔ (pos P <ℤ need N l)
   contradicts-below-need P l h = (
     (λ c. over-below _ _ (setups l) P h (total-at P l) (need N l) c (up-enough (total (base N) l) (setups l) h)),
     below-over _ _ (setups l) P h (total-at P l),
   )
 
-  -- "no schedule at any whole period, however large": a loop without setup rules is the same at every period
+  -- RULES 4.5: "A loop without them contradicts itself at every period or at none."
   pub contradicts-always : (P Q : ℕ) (l : List Rule) → setups l ≡ 0 → Contradicts N P l ↔ Contradicts N Q l
   contradicts-always P Q l h = (at P Q, at Q P)
     where
@@ -125,7 +124,8 @@ module _ (N : Network) where
       at : (P Q : ℕ) → Contradicts N P l → Contradicts N Q l
       at P Q c = omega (lin, total-at P l, total-at Q l, none P, none Q)
 
-  -- "A loop with k >= 1 setup rules needs the period": its need from its sum at any period P, of which only what is over P is rounded
+  -- RULES 4.3: "A loop that has k setup rules, k at least 1, needs a period": its need from its sum at any period P, of which only what is
+  -- over P is rounded
   pub need-from : (P : ℕ) (l : List Rule) → 0 < setups l → need N l ≡ pos P +ℤ roundUp (total (amount N P) l) (setups l)
   need-from P l h = need-shifts _ _ (setups l) P h (total-at P l)
 
@@ -138,7 +138,7 @@ module _ (N : Network) where
       → All (Exists N) l → Chain (tail N) (head N) u l v → (x u +ℤ total (amount N P) l) ≤ℤ x v
   chain-binds-schedule P x s l u v e = chain-binds (tail N) (head N) (amount N P) x u l v (schedule-meets P x s l e)
 
-  -- "It contradicts itself at P when its amounts add up to more than 0.": where there is a schedule, no loop's amounts do
+  -- RULES 4.5: "at a period that has a schedule the amounts of every loop add up to at most 0"
   pub loop-binds-schedule : (P : ℕ) (x : ℕ → ℤ) → Schedule N P x → (l : List Rule) → IsLoop N l → total (amount N P) l ≤ℤ pos 0
   loop-binds-schedule P x s l i = loop-binds (tail N) (head N) (amount N P) x l (schedule-meets P x s l (i .exist)) (i .loop)
 

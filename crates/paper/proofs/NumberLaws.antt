@@ -1,6 +1,6 @@
--- The cases from their numbers and places: "a definition gives this paper's number and values for each of its cases". A refusal is known from
--- its number and place, and has a number other than 0 and 7 to 9. That one law is all that is used of refusals here, and from it follow one
--- outcome and one reply, whatever the network and the table of numbers. Rests on `TableLaws`.
+-- The cases from their numbers and places, which they have from one definition (RULES 14.5). A refusal is known from its number and place,
+-- and has a number other than 0 and 7 to 9. That one law is all that is used of refusals here, and from it follow one outcome and one reply,
+-- whatever the network and the table of numbers. Rests on `TableLaws`.
 use mathlib.Core.Path.{_≡_, refl, sym, ap, ap₂, _∙_}
 use mathlib.Core.Logic.{inl, inr}
 use mathlib.Core.List.{List, [], _∷_}
@@ -173,7 +173,8 @@ module _ (N : Network) (q : asking.Question) where
   clash : asking.Says N q reply.Yes → asking.Says N q reply.No → ⊥
   clash (r, a, m) (s, b, k) = k (rw (asked-one s r b a) m)
 
-  -- "Yes and no both come with number 0 and place 0": these two the rule tells apart, and any other reply is known from its number and place
+  -- RULES 8.6: "A yes and a no have number 0 and place 0 alike.": these two the rule tells apart, and any other reply is known from its
+  -- number and place
   said-one : (a b : Reply) → replyNumber a ≡ replyNumber b → replyPlace a ≡ replyPlace b → asking.Says N q a → asking.Says N q b → a ≡ b
   said-one reply.Yes reply.Yes n p s t = refl
   said-one reply.Yes reply.No n p s t = absurd (clash s t)
@@ -185,7 +186,7 @@ module _ (N : Network) (q : asking.Question) where
   said-one (reply.Refused x) reply.No n p s t = absurd (refusal-apart x 0 (λ p. refl) (sym n))
   said-one (reply.Refused x) (reply.Refused y) n p s t = ap reply.Refused (refusal-known x y n p)
 
--- "Yes is given exactly when the named rule's inequality holds.": no two replies answer one question
+-- RULES 8.5: "the answer is yes exactly when the inequality of the rule holds": no two replies answer one question
 pub reply-one : {N : Network} {rows : List Row} {q : asking.Question} {a b : Reply} → OnePlaces rows
     → asking.Answers N rows q a → asking.Answers N rows q b → a ≡ b
 reply-one {N} {rows} {q} {a} {b} one h k =

@@ -13,7 +13,7 @@ use Rattle.whole.proofs.Four.{number-first, four-length}
 use Rattle.paper.specs.Rules.{Rule}
 use Rattle.paper.specs.Output.{skewRecord, latencyRecords, entryRecords, Front}
 
--- ---- "14 bytes", 6 for each latency, 10 for each entry
+-- ---- 14 bytes, 6 for each latency, 10 for each entry (RULES 7.2 to 7.4)
 
 -- the first record has 14 bytes, a latency 6, an entry 10
 pub skew-length : (P n k : ℕ) → length (skewRecord P n k) ≡ 14
@@ -27,7 +27,7 @@ pub entries-length : (l : List Rule) → length (entryRecords l) ≡ 10 * length
 entries-length [] = refl
 entries-length (r ∷ l) = simp (length-append, four-length, entries-length l) (omega arith)
 
--- ---- "`SK` period, number of latencies, number of loop entries": each is read where it stands, whatever follows
+-- ---- the period, the number of latencies and the number of loop entries (RULES 7.2): each is read where it stands, whatever follows
 
 back : (n : ℕ) → n < 2147483648 → numberAt (four (pos n)) 0 ≡ pos n
 unfolding four bytesOf

@@ -1,13 +1,13 @@
 -- The columns of the table of four rules agree: a slack of at least 0, the inequality of the third column, and arrow with amount say the
 -- same, and the slack is the arrow's. And a longer period takes no schedule away. Rests on whole numbers alone.
-use mathlib.Core.Path.{_≡_}
+use mathlib.Core.Path.{_≡_, refl}
 use mathlib.Core.Logic.{_↔_}
 use Prim.Native.Nat.{ℕ, _≤_}
 use lib.IntN.{ℤ, pos, negℤ, _+ℤ_, _-ℤ_}
 use lib.Signed.{_≤ℤ_}
 use Rattle.whole.proofs.Lin.{lin, plus, minus, negs}
 use Rattle.paper.specs.Network.{Network}
-use Rattle.paper.specs.Rules.{Rule, Setup, Hold, Low, High, Holds, Met, tail, head, base, amount, slack}
+use Rattle.paper.specs.Rules.{Rule, Setup, Hold, Low, High, Holds, HoldsAs, Met, tail, head, base, amount, slack}
 use Rattle.paper.specs.Schedule.{Schedule}
 
 -- a difference is at least 0 exactly when what is taken away is at most what it is taken from
@@ -56,15 +56,27 @@ module _ (N : Network) where
   slack-is P (Low i) a b = taken-zero b (N .low i)
   slack-is P (High i) a b = from-zero a (N .high i)
 
-  -- "Yes is given exactly when the named rule's inequality holds.": a rule is met by the latencies at its two ends exactly when the
-  -- table's third column holds
-  pub met-is-rule : (P : ℕ) (x : ℕ → ℤ) (r : Rule) → Met N P r (x (tail N r)) (x (head N r)) ↔ Holds N P x r
-  met-is-rule P x (Setup p) = difference _ _
-  met-is-rule P x (Hold p) = difference _ _
-  met-is-rule P x (Low i) = difference _ _
-  met-is-rule P x (High i) = difference _ _
+  -- RULES 8.5: "the answer is yes exactly when the inequality of the rule holds, and else no": a rule's slack is at least 0 exactly when its
+  -- inequality holds, with whatever latencies at its two ends
+  pub met-is-written : (P : ℕ) (r : Rule) (a b : ℤ) → Met N P r a b ↔ HoldsAs N P r a b
+  met-is-written P (Setup p) a b = difference _ _
+  met-is-written P (Hold p) a b = difference _ _
+  met-is-written P (Low i) a b = difference _ _
+  met-is-written P (High i) a b = difference _ _
 
-  -- "Each rule says: the latency at the arrow's head is at least the latency at its tail plus the amount."
+  -- with the latencies that a row has at the rule's two ends, that inequality is the table's third column, also where the row does not have
+  -- the host at 0
+  pub written-is-rule : (P : ℕ) (x : ℕ → ℤ) (r : Rule) → HoldsAs N P r (x (tail N r)) (x (head N r)) ≡ Holds N P x r
+  written-is-rule P x (Setup p) = refl
+  written-is-rule P x (Hold p) = refl
+  written-is-rule P x (Low i) = refl
+  written-is-rule P x (High i) = refl
+
+  -- so a rule is met by a row's latencies at its two ends exactly when the third column holds
+  pub met-is-rule : (P : ℕ) (x : ℕ → ℤ) (r : Rule) → Met N P r (x (tail N r)) (x (head N r)) ↔ Holds N P x r
+  met-is-rule P x r = rw (← (written-is-rule P x r)) (met-is-written P r (x (tail N r)) (x (head N r)))
+
+  -- RULES 2.3: "Every rule is an arrow with an amount: the latency at the arrow's head .. is at least the latency at its tail .. plus the amount."
   pub arrow-is-rule : (P : ℕ) (x : ℕ → ℤ) (r : Rule) → x 0 ≡ pos 0 → Holds N P x r ↔ ((x (tail N r) +ℤ amount N P r) ≤ℤ x (head N r))
   arrow-is-rule P x (Setup p) host =
       rw (grouped3 (x (N .from p))) (moved (x (N .from p)) (base N (Setup p)) (x (N .to p)) (pos P))
@@ -73,14 +85,14 @@ module _ (N : Network) where
   arrow-is-rule P x (Low i) host = ((λ h. omega lin), (λ h. omega lin))
   arrow-is-rule P x (High i) host = ((λ h. omega (lin, negs (N .high i))), (λ h. omega (lin, negs (N .high i))))
 
-  -- "dmax + s_j + u - P": the period stands in the amount of a setup rule alone, and a longer one raises no amount
+  -- RULES 2.7: "The period stands in setup rules alone.": it is taken off their amounts, so a longer one raises no amount
   pub amount-falls : (P Q : ℕ) (r : Rule) → P ≤ Q → amount N Q r ≤ℤ amount N P r
   amount-falls P Q (Setup p) h = omega (lin, negs (pos P), negs (pos Q))
   amount-falls P Q (Hold p) h = omega lin
   amount-falls P Q (Low i) h = omega lin
   amount-falls P Q (High i) h = omega lin
 
-  -- so what "meets all rules" at P meets them at every longer period
+  -- so RULES 3.4: "a schedule at P is a schedule at every larger period too"
   pub schedule-stays : (P Q : ℕ) (x : ℕ → ℤ) → P ≤ Q → Schedule N P x → Schedule N Q x
   schedule-stays P Q x h s = record { host = s .host; meets = λ r e. later r (s .meets r e) }
     where

@@ -50,7 +50,7 @@ abbrev pub ByRow : List Row → ℕ → ℕ → Type 0
 ByRow [] n p = ⊥
 ByRow (r ∷ t) n p = ((n ≡ r .number) × r .applies p) ⊎ (Silent r × ByRow t n p)
 
--- "The lowest number that applies is returned.": it is one number, with one place
+-- RULES 6.3: "Of the numbers from 1 on that apply, the lowest is returned": it is one number, with one place
 pub given-one : (t : List Row) → OnePlaces t → (n m p q : ℕ) → Given t n p → Given t m q → (n ≡ m) × (p ≡ q)
 given-one [] o n m p q g h = (g .0 ∙ sym (h .0), g .1 ∙ sym (h .1))
 given-one (r ∷ t) o n m p q (inl g) (inl h) = (g .0 ∙ sym (h .0), o .0 p q (g .1) (h .1))

@@ -1,5 +1,5 @@
--- Networks worked by hand: the paper's eleven cases, as one table. A row writes its network in the paper's own terms and says what comes
--- of it; `Worked` says that the definitions agree, and `proofs/WorkedCases.antt` shows it for the whole table.
+-- Networks worked by hand: the paper's eleven cases (RULES 11.5), as one table. A row writes its network in the paper's own terms and says
+-- what comes of it; `Worked` says that the definitions agree, and `proofs/WorkedCases.antt` shows it for the whole table.
 use mathlib.Core.Path.{_≡_}
 use mathlib.Core.List.{List, [], _∷_, _++_}
 use Prim.Native.Nat.{ℕ, _+_, _*_, _≤_}
@@ -28,7 +28,7 @@ pub record Described : Type 0 where
   pub registers : List Fields
   pub paths : List Fields
 
--- "Every record begins with a two-byte mark; then numbers of four bytes each"
+-- RULES 5.1: "Each begins with a mark, two letters in ASCII, and then has numbers. A number takes four bytes"
 abbrev pub records : ℕ → ℕ → List Fields → List ℕ
 records a b [] = []
 records a b (r ∷ l) = a ∷ b ∷ (four (r .0) ++ four (r .1) ++ four (r .2) ++ four (r .3) ++ records a b l)
@@ -76,8 +76,8 @@ pub record Worked (c : Case) : Type 0 where
 
 -- ---- the networks
 
--- "Network A: n = 3, floor 1, ceiling 100, u 0; setup 1, hold 1 for each register; windows -10 to 10 for 1 and 2. Paths (from, to, dmin,
--- dmax): 0: (0, 1, 2, 9); 1: (1, 2, 2, 3); 2: (2, 0, 2, 6)."
+-- RULES 11.1: "Network A has n = 3, m = 3, floor 1, ceiling 100 and u 0. Every register has setup 1 and hold 1. Registers 1 and 2 have the
+-- window -10 to 10. The paths, as (from, to, dmin, dmax): path 0 is (0, 1, 2, 9), path 1 is (1, 2, 2, 3), path 2 is (2, 0, 2, 6)."
 abbrev pub networkA : ℕ → ℕ → ℕ → Described
 networkA floor ceiling u =
     record {
@@ -96,7 +96,8 @@ networkA floor ceiling u =
           ∷ [];
     }
 
--- "Network D: n = 2, floor 1, ceiling 100, u 0, all setup and hold 0, window -10 to 10. Paths (0, 1, 5, 10) and (1, 0, 5, 5)."
+-- RULES 11.3: "Network D has n = 2, m = 2, floor 1, ceiling 100 and u 0. All setup and hold times are 0. Register 1 has the window -10 to 10.
+-- Path 0 is (0, 1, 5, 10), path 1 is (1, 0, 5, 5)."
 abbrev pub networkD : ℤ → ℤ → Described
 networkD low high =
     record {
@@ -107,7 +108,7 @@ networkD low high =
       paths = (pos 0, pos 1, pos 5, pos 10) ∷ (pos 1, pos 0, pos 5, pos 5) ∷ [];
     }
 
--- "Where B or F names no floor, ceiling, u, setup or hold, these are 1, 100, 0, 0 and 0.": the host alone
+-- the host alone. RULES 11.4: "B and F have floor 1, ceiling 100, u 0, setup 0 and hold 0 where the table does not say otherwise."
 abbrev pub hostAlone : ℤ → List Fields → Described
 hostAlone hold paths =
     record {
@@ -120,47 +121,47 @@ hostAlone hold paths =
 
 -- ---- the rows: one name each, by which the check names a row that does not meet the definitions
 
--- A: "period 9, latency 0 0, latency 1 1, latency 2 -1, loop 8, setup 0, hold 0"
+-- RULES 11.5: | A | 11.1 | answered | 9 | 0, 1, -1 | setup 0, hold 0 |
 abbrev pub caseA : Case
 caseA = record { network = networkA 1 100 0; result = answered 9 (pos 0 ∷ pos 1 ∷ negℤ (pos 1) ∷ []) (Setup 0 ∷ Hold 0 ∷ []) }
 
--- A2: "A, floor 9": "period 9, latencies 0, 1, -1, no loop"
+-- RULES 11.5: | A2 | A with floor 9 | answered | 9 | 0, 1, -1 | none |
 abbrev pub caseA2 : Case
 caseA2 = record { network = networkA 9 100 0; result = answered 9 (pos 0 ∷ pos 1 ∷ negℤ (pos 1) ∷ []) [] }
 
--- A3: "A, floor 20": "period 20, latencies 0, -2, -1, no loop"
+-- RULES 11.5: | A3 | A with floor 20 | answered | 20 | 0, -2, -1 | none |
 abbrev pub caseA3 : Case
 caseA3 = record { network = networkA 20 100 0; result = answered 20 (pos 0 ∷ negℤ (pos 2) ∷ negℤ (pos 1) ∷ []) [] }
 
--- A4: "A, ceiling 8": "refused 9, loop setup 0, hold 0"
+-- RULES 11.5: | A4 | A with ceiling 8 | refused 9 | | | setup 0, hold 0 |
 abbrev pub caseA4 : Case
 caseA4 = record { network = networkA 1 8 0; result = refused-9 (Setup 0 ∷ Hold 0 ∷ []) }
 
--- A5: "A, ceiling 9": "as A"
+-- RULES 11.5: | A5 | A with ceiling 9 | answered, as A | 9 | 0, 1, -1 | setup 0, hold 0 |
 abbrev pub caseA5 : Case
 caseA5 = record { network = networkA 1 9 0; result = answered 9 (pos 0 ∷ pos 1 ∷ negℤ (pos 1) ∷ []) (Setup 0 ∷ Hold 0 ∷ []) }
 
--- A6: "A, u 1": "period 11, latencies 0, 0, 0, loop setup 0, hold 0"
+-- RULES 11.5: | A6 | A with u 1 | answered | 11 | 0, 0, 0 | setup 0, hold 0 |
 abbrev pub caseA6 : Case
 caseA6 = record { network = networkA 1 100 1; result = answered 11 (pos 0 ∷ pos 0 ∷ pos 0 ∷ []) (Setup 0 ∷ Hold 0 ∷ []) }
 
--- A7: "A, u 2": "refused 8, loop hold 2, hold 1, hold 0"
+-- RULES 11.5: | A7 | A with u 2 | refused 8 | | | hold 2, hold 1, hold 0 |
 abbrev pub caseA7 : Case
 caseA7 = record { network = networkA 1 100 2; result = refused-8 (Hold 2 ∷ Hold 1 ∷ Hold 0 ∷ []) }
 
--- B: "n = 1, hold 1, setup 0, u 0, path (0, 0, 0, 5)": "refused 8, loop hold 0"
+-- RULES 11.5: | B | n = 1, hold 1, setup 0, u 0, one path (0, 0, 0, 5) | refused 8 | | | hold 0 |
 abbrev pub caseB : Case
 caseB = record { network = hostAlone (pos 1) ((pos 0, pos 0, pos 0, pos 5) ∷ []); result = refused-8 (Hold 0 ∷ []) }
 
--- D: "period 8, latencies 0, 2, loop setup 0, setup 1"
+-- RULES 11.5: | D | 11.3 | answered | 8 | 0, 2 | setup 0, setup 1 |
 abbrev pub caseD : Case
 caseD = record { network = networkD (negℤ (pos 10)) (pos 10); result = answered 8 (pos 0 ∷ pos 2 ∷ []) (Setup 0 ∷ Setup 1 ∷ []) }
 
--- E: "D, window of 1 is 0 to 1": "period 9, latencies 0, 1, loop setup 0, high 1"
+-- RULES 11.5: | E | D with the window 0 to 1 for register 1 | answered | 9 | 0, 1 | setup 0, high 1 |
 abbrev pub caseE : Case
 caseE = record { network = networkD (pos 0) (pos 1); result = answered 9 (pos 0 ∷ pos 1 ∷ []) (Setup 0 ∷ High 1 ∷ []) }
 
--- F: "n = 1, no paths, floor 1": "period 1, latency 0, no loop"
+-- RULES 11.5: | F | n = 1, no paths, floor 1 | answered | 1 | 0 | none |
 abbrev pub caseF : Case
 caseF = record { network = hostAlone (pos 0) []; result = answered 1 (pos 0 ∷ []) [] }
 

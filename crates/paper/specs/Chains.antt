@@ -15,7 +15,7 @@ abbrev pub In : {E : Type 0} → E → List E → Type 0
 In e [] = ⊥
 In e (f ∷ l) = (e ≡ f) ⊎ In e l
 
--- the same members, in whatever order
+-- the same members, in whatever order and however often
 pub record SameMembers {E : Type 0} (l m : List E) : Type 0 where
   pub there : (e : E) → In e l → In e m
   pub back : (e : E) → In e m → In e l
@@ -31,12 +31,13 @@ module _ {E : Type 0} (tail head : E → ℕ) where
   Once [] = Unit {0}
   Once (e ∷ l) = All (λ f. tail f ≢ tail e) l × Once l
 
-  -- "A loop is a closed chain of arrows that passes each register at most once; a self path gives a loop of one."
+  -- RULES 4.1: "A loop is a closed chain of one or more arrows: each arrow leaves the register that the arrow before it reaches, and the last
+  -- one reaches the register that the first one leaves. It passes each register at most once."
   abbrev pub Loop : List E → Type 0
   Loop [] = ⊥
   Loop (e ∷ l) = Chain (tail e) (e ∷ l) (tail e) × Once (e ∷ l)
 
-  -- "starting with the arrow that leaves its lowest-numbered register"
+  -- RULES 7.9: "The first entry is the arrow that leaves the lowest-numbered register of the loop."
   abbrev pub Listed : List E → Type 0
   Listed [] = Unit {0}
   Listed (e ∷ l) = All (λ f. tail e ≤ tail f) l

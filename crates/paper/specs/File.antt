@@ -1,9 +1,11 @@
 -- The network file.
 --
--- "Every record begins with a two-byte mark; then numbers of four bytes each, two's complement, low byte first.
---  - Header `NW`: register count n, path count m, floor, ceiling, u. 22 bytes.
---  - n records `RG`: setup, hold, low, high. 18 bytes each, register 0 first.
---  - m records `PT`: from, to, dmin, dmax. 18 bytes each, path 0 first."
+-- RULES 5.1: "A file is a row of records. Each begins with a mark, two letters in ASCII, and then has numbers. A number takes four bytes, in
+-- two's complement, with the low byte first."
+-- RULES 5.2: "The first record is the header, 22 bytes: `NW` (bytes 78, 87), then the number n of registers, the number m of paths, floor,
+-- ceiling and u."
+-- RULES 5.3: "Then come n register records, register 0 first, 18 bytes each: `RG` (82, 71), then setup, hold, low and high."
+-- RULES 5.4: "Then come m path records, path 0 first, 18 bytes each: `PT` (80, 84), then from, to, dmin and dmax."
 use mathlib.Core.List.{List}
 use mathlib.Core.Bool.{Bool, _&&_, cond}
 use Prim.Native.Nat.{ℕ, _+_, _*_}
@@ -50,26 +52,31 @@ module _ (f : List ℕ) where
   unfoldable pub headed : Bool
   headed = leb 22 (length f) && marked f 0 78 87
 
-  -- | n           | 1 to 256                                                       |
-  -- | m           | 0 to 2,048                                                     |
+  -- RULES 5.6:
+  -- | header | 0 | n | 2 | 1 to 256 |
+  -- | | | m | 6 | 0 to 2,048 |
   unfoldable pub counted : Bool
   counted = within (pos 1) (pos mostRegisters) (numberAt f 2) && within (pos 0) (pos mostPaths) (numberAt f 6)
 
-  -- "Nothing follows."
+  -- RULES 5.5: "Nothing follows. So the length is 22 + 18(n + m) bytes"
   unfoldable pub sized : Bool
   sized = eqb (length f) (22 + 18 * (registers + paths))
 
-  -- | floor       | 1 to 10,000,000                                                |
-  -- | ceiling     | floor to 10,000,000                                            |
-  -- | u           | 0 to 10,000                                                    |
+  -- RULES 5.6:
+  -- | | | floor | 10 | 1 to 10,000,000 |
+  -- | | | ceiling | 14 | floor to 10,000,000 |
+  -- | | | u | 18 | 0 to 10,000 |
   unfoldable pub ranged : Bool
   ranged =
       within (pos 1) (pos mostPeriod) (numberAt f 10)
       && within (numberAt f 10) (pos mostPeriod) (numberAt f 14)
       && within (pos 0) (pos mostUncertainty) (numberAt f 18)
 
-  -- | setup, hold | -100,000 to 100,000                                            |
-  -- | low, high   | -1,000,000 to 1,000,000, low <= high; both 0 for register 0    |
+  -- RULES 5.6:
+  -- | register i | 22 + 18i | setup | 2 | -100,000 to 100,000 |
+  -- | | | hold | 6 | -100,000 to 100,000 |
+  -- | | | low | 10 | -1,000,000 to 1,000,000; for register 0 only 0 |
+  -- | | | high | 14 | -1,000,000 to 1,000,000 and not below low; for register 0 only 0 |
   unfoldable pub registerOk : ℕ → Bool
   registerOk i =
       marked f (registerPlace i) 82 71
@@ -77,8 +84,11 @@ module _ (f : List ℕ) where
       && within leastSetup mostSetup (numberAt f (registerPlace i + 6))
       && windowed i (numberAt f (registerPlace i + 10)) (numberAt f (registerPlace i + 14))
 
-  -- | from, to    | 0 to n - 1                                                     |
-  -- | dmin, dmax  | 0 <= dmin <= dmax <= 1,000,000                                 |
+  -- RULES 5.6:
+  -- | path p | 22 + 18(n + p) | from | 2 | 0 to n - 1 |
+  -- | | | to | 6 | 0 to n - 1 |
+  -- | | | dmin | 10 | 0 to dmax |
+  -- | | | dmax | 14 | dmin to 1,000,000 |
   unfoldable pub pathOk : ℕ → Bool
   pathOk p =
       marked f (pathPlace p) 80 84
@@ -87,7 +97,7 @@ module _ (f : List ℕ) where
       && leZ (pos 0) (numberAt f (pathPlace p + 10))
       && within (numberAt f (pathPlace p + 10)) mostDelay (numberAt f (pathPlace p + 14))
 
-  -- the network that the file means; every path is charged the header's u
+  -- the network that the file means; every path is charged the header's u (RULES 2.8)
   unfoldable pub networkOf : Network
   networkOf =
       record {

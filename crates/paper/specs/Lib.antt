@@ -1,4 +1,4 @@
--- The paper as definitions, one file a topic, in the paper's order.
+-- The paper, which is docs/RULES.md, as definitions, one file a topic, in the paper's order.
 pub mod Network
 pub mod Limits
 pub mod Legal
@@ -13,3 +13,5 @@ pub mod Output
 pub mod Outcome
 pub mod Question
 pub mod Cases
+pub mod Rejected
+pub mod RejectedQuestions

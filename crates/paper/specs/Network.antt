@@ -1,5 +1,5 @@
--- What the module covers: one edge-triggered clock, registers joined by paths, each path with a least and a greatest delay. Register 0 is
--- the host. All times are whole picoseconds.
+-- What the module covers (RULES 1.1 to 1.8): one edge-triggered clock, registers joined by paths, each path with a least and a greatest
+-- delay. Register 0 is the host. All times are whole picoseconds.
 use Prim.Native.Nat.{ℕ}
 use lib.IntN.{ℤ}
 

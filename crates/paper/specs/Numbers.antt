@@ -1,5 +1,5 @@
--- One number and one place: the paper's number and place of each case of what a function returns. Whoever adds a case of a refusal says
--- its number and place here, and nowhere else.
+-- One number and one place: the paper's number and place of each case of what a function returns (RULES 6.2). Whoever adds a case of a
+-- refusal says its number and place here, and nowhere else.
 use Prim.Native.Nat.{ℕ}
 use Rattle.paper.specs.declared.Fault.{Fault}
 use Rattle.paper.specs.declared.Fault.the-variants.{Header, Counts, Length, Ranges, Register, Path}
@@ -59,7 +59,7 @@ outcomePlace outcome.Room = 0
 outcomePlace outcome.NoPeriod = 0
 outcomePlace outcome.NoneToCeiling = 0
 
--- "Yes and no both come with number 0 and place 0"
+-- RULES 8.6: "A yes and a no have number 0 and place 0 alike."
 abbrev pub replyNumber : Reply → ℕ
 replyNumber reply.Yes = 0
 replyNumber reply.No = 0

@@ -17,7 +17,7 @@ use Rattle.paper.specs.Output.{Answered, NoPeriodShown, NoneToCeilingSho
 abbrev pub Judged : List ℕ → Verdict → Type 0
 Judged f v = Given (faults f) (verdictNumber v) (verdictPlace v)
 
--- what stands in the output: number 7 and what comes before it leave it untouched
+-- what stands in the output: number 7 and what comes before it leave it untouched (RULES 7.7)
 abbrev pub Left : Network → Outcome → List ℕ → List ℕ → Type 0
 Left N outcome.Answered before after = Answered N before after
 Left N (outcome.Refused x) before after = after ≡ before

@@ -1,7 +1,9 @@
 -- The answer's bytes.
 --
--- "`SK` period, number of latencies, number of loop entries (14 bytes); then for each register `LT` latency (6 bytes); then for each loop
--- entry `ED` kind, number (10 bytes). .. Bytes past the last one written keep their values."
+-- RULES 7.2: "The first record has 14 bytes: `SK` (83, 75), then the period, the number of latencies and the number of loop entries."
+-- RULES 7.3: "Then comes a record for each latency, register 0 first, 6 bytes each: `LT` (76, 84), then the latency."
+-- RULES 7.4: "Then comes a record for each entry of the loop, 10 bytes each: `ED` (69, 68), then the kind's number (2.2) and the number of
+-- the path or register that names the rule (2.4)."
 use mathlib.Core.Path.{_≡_}
 use mathlib.Core.List.{List, [], _∷_, _++_}
 use Prim.Native.Nat.{ℕ, zero, suc}
@@ -30,16 +32,17 @@ abbrev pub entryRecords : List Rule → List ℕ
 entryRecords [] = []
 entryRecords (r ∷ l) = entryRecord r ++ entryRecords l
 
--- the bytes stand at the front; what stood past them stands there still
+-- The bytes stand at the front; what stood past them stands there still. RULES 7.8: "every byte behind the last one that was written is what
+-- it was before"
 abbrev pub Front : List ℕ → List ℕ → List ℕ → Type 0
 Front bytes before after = after ≡ bytes ++ drop (length bytes) before
 
--- the output of an answer: its period, the latencies of n registers, and a loop, which may be of no entries
+-- the output of an answer: its period, the latencies of n registers, and the entries of a loop, which are none where none is shown
 abbrev pub AnswerOutput : ℕ → ℕ → (ℕ → ℤ) → List Rule → List ℕ → List ℕ → Type 0
 AnswerOutput n period latency loop before after =
     Front (skewRecord period n (length loop) ++ latencyRecords latency n ++ entryRecords loop) before after
 
--- | 0 | answered | period, n latencies, loop |
+-- RULES 7.5: "After number 0: `SK` with the period, n and the number of entries; then n latencies; then the entries."
 pub record Answered (N : Network) (before after : List ℕ) : Type 0 where
   pub period : ℕ
   pub latency : ℕ → ℤ
@@ -48,18 +51,18 @@ pub record Answered (N : Network) (before after : List ℕ) : Type 0 where
   pub shown : Shown N period loop
   pub bytes : AnswerOutput (N .registers) period latency loop before after
 
--- `SK` 0, 0, count, and the loop
+-- RULES 7.6: "After 8 and 9: `SK` with 0, 0 and the number of entries; no latencies; then the entries."
 abbrev pub LoopAlone : List Rule → List ℕ → List ℕ → Type 0
 LoopAlone loop before after = Front (skewRecord 0 0 (length loop) ++ entryRecords loop) before after
 
--- | 8 | a loop without setup rules that contradicts itself |
+-- RULES 7.11: "Number 8 shows a loop that has no setup rule and contradicts itself."
 pub record NoPeriodShown (N : Network) (before after : List ℕ) : Type 0 where
   pub loop : List Rule
   pub no-setups : setups loop ≡ 0
   pub refutes : (P : ℕ) → Refutes N P loop
   pub bytes : LoopAlone loop before after
 
--- | 9 | a loop that contradicts itself at the ceiling |
+-- RULES 7.11: "Number 9 shows a loop that contradicts itself at the ceiling."
 pub record NoneToCeilingShown (N : Network) (before after : List ℕ) : Type 0 where
   pub loop : List Rule
   pub refutes : Refutes N (N .ceiling) loop

@@ -1,10 +1,11 @@
 -- The rule question.
 --
--- "A second public question names a file, a period, a rule by kind and number, and the latencies at the arrow's tail and head, and says
--- whether the rule is met. It answers 1 to 6 as above, then 10 if the period is outside 1 to 10,000,000, a latency is outside -1,000,000
--- to 1,000,000, or the rule doesn't exist; a host latency other than 0 isn't refused: setup and hold use it as given, low and high don't
--- read it. Yes is given exactly when the named rule's inequality holds. Yes and no both come with number 0 and place 0; a refusal carries
--- neither. On a self path the two latencies are taken as given, even when they differ."
+-- RULES 8.1: "The question names a file, a period, a rule by its kind and number, and two latencies: that at the tail of the rule's arrow and
+-- that at its head. It answers whether the rule is met."
+-- RULES 8.2: "A file that is not accepted is refused first, with 1 to 6 and the places of 6.2."
+-- RULES 8.7: "A latency of the host other than 0 is no ground to refuse. Setup and hold rules take it as it is given. Low and high rules do
+-- not read it"
+-- RULES 8.8: "On a path from a register to itself both latencies are taken as they are given, even when they differ."
 use mathlib.Core.Path.{_≡_}
 use mathlib.Core.List.{List, [], _∷_, _++_}
 use mathlib.Core.Bool.{true}
@@ -28,6 +29,11 @@ pub record Question : Type 0 where
   pub tail-latency : ℤ
   pub head-latency : ℤ
 
+-- the five numbers of a call, as a question
+abbrev pub asked : (period kind number tail head : ℤ) → Question
+asked period kind number tail head =
+    record { period = period; kind-asked = kind; number-asked = number; tail-latency = tail; head-latency = head }
+
 module _ (N : Network) (q : Question) where
   -- the rule that is asked for
   pub record Asked (r : Rule) : Type 0 where
@@ -44,7 +50,8 @@ module _ (N : Network) (q : Question) where
   abbrev pub MetAsked : Rule → Type 0
   MetAsked r = Met N (natural (q .period)) r (q .tail-latency) (q .head-latency)
 
--- | 10 | the period or a latency is out of range, or the rule doesn't exist | 0 |
+-- RULES 8.3: "Then the question is refused with 10 when the period is outside 1 to 10,000,000, or one of the latencies is outside -1,000,000
+-- to 1,000,000, or the network has no such rule"
 abbrev pub questionRows : Network → Question → List Row
 questionRows N q = record { number = 10; applies = When (InRange N q → ⊥) } ∷ []
 
@@ -52,7 +59,8 @@ questionRows N q = record { number = 10; applies = When (InRange N q → ⊥) } 
 abbrev pub questionRefusals : List ℕ → Question → List Row
 questionRefusals f q = faults f ++ questionRows (networkOf f) q
 
--- "Yes is given exactly when the named rule's inequality holds. .. a refusal carries neither."
+-- RULES 8.5: "Otherwise the answer is yes exactly when the inequality of the rule holds, and else no."
+-- RULES 8.6: "A refusal is neither."
 abbrev pub Says : Network → Question → Reply → Type 0
 Says N q reply.Yes = (r : Rule) × Asked N q r × MetAsked N q r
 Says N q reply.No = (r : Rule) × Asked N q r × (MetAsked N q r → ⊥)

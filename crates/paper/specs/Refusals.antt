@@ -1,4 +1,4 @@
--- Numbers returned, 1 to 9: the rows of the tables.
+-- Numbers returned, 1 to 9: the rows of the tables (RULES 6.2).
 use mathlib.Core.List.{List, [], _∷_, _++_}
 use Prim.Native.Nat.{ℕ, _+_, _*_, _≤_}
 use lib.IntN.{ℤ}
@@ -13,21 +13,23 @@ use Rattle.paper.specs.Limits.{roomFor}
 abbrev pub Scheduled : Network → ℕ → Type 0
 Scheduled N P = (x : ℕ → ℤ) × Schedule N P x
 
--- "no schedule at any whole period, however large"
+-- RULES 6.2: "there is no schedule at any whole period, however large"
+-- RULES 6.6: "a period in 8 and 9 is a whole number from 1 up"
 abbrev pub NoPeriod : Network → Type 0
 NoPeriod N = (P : ℕ) → 1 ≤ P → Scheduled N P → ⊥
 
--- "a schedule at some period, none up to the ceiling"
+-- RULES 6.2: "there is a schedule at some period, but at none up to the ceiling"
 pub record NoneToCeiling (N : Network) : Type 0 where
   pub some : (P : ℕ) × (1 ≤ P) × Scheduled N P
   pub none : (P : ℕ) → 1 ≤ P → P ≤ N .ceiling → Scheduled N P → ⊥
 
--- | 1 | under 22 bytes, or first two not `NW`        | 0                       |
--- | 2 | n or m out of range                          | 0                       |
--- | 3 | length is not 22 + 18(n + m)                 | 0                       |
--- | 4 | floor, ceiling or u out of range             | 0                       |
--- | 5 | a register record has a wrong mark or field  | lowest such register    |
--- | 6 | a path record has a wrong mark or field      | lowest such path        |
+-- RULES 6.2:
+-- | 1 | the file has fewer than 22 bytes, or its first two are not `NW` | 0 | untouched |
+-- | 2 | n or m is out of range | 0 | untouched |
+-- | 3 | the file's length is not 22 + 18(n + m) | 0 | untouched |
+-- | 4 | floor, ceiling or u is out of range | 0 | untouched |
+-- | 5 | a register record has a wrong mark, or a number out of range | the lowest such register | untouched |
+-- | 6 | a path record has a wrong mark, or a number out of range | the lowest such path | untouched |
 --
 -- the last two rows, which read the records
 abbrev pub recordFaults : List ℕ → List Row
@@ -45,13 +47,14 @@ faults f =
     ∷ record { number = 4; applies = Fails (ranged f) }
     ∷ recordFaults f
 
--- "A file, or its network, is accepted when no refusal that comes before 7 applies."
+-- RULES 6.4: "A file, or the network that it means, is accepted when none of the refusals that stand before 7 applies"
 abbrev pub Accepted : List ℕ → Type 0
 Accepted f = Clear (faults f)
 
--- | 7 | room below 14 + 16n                            | 0 |
--- | 8 | no schedule at any whole period, however large | 0 |
--- | 9 | a schedule at some period, none up to the ceiling | 0 |
+-- RULES 6.2:
+-- | 7 | the output has fewer than 14 + 16n bytes | 0 | untouched |
+-- | 8 | there is no schedule at any whole period, however large | 0 | as 7.6 |
+-- | 9 | there is a schedule at some period, but at none up to the ceiling | 0 | as 7.6 |
 abbrev pub scheduleRows : Network → ℕ → List Row
 scheduleRows N room =
     record { number = 7; applies = Fails (leb (roomFor (N .registers)) room) }

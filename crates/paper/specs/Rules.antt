@@ -1,16 +1,18 @@
 -- The four rules.
 --
--- | kind  | number | rule                             | arrow  | amount             |
--- | setup | 0      | x_i + dmax + s_j + u <= x_j + P  | i to j | dmax + s_j + u - P |
--- | hold  | 1      | x_i + dmin >= x_j + h_j + u      | j to i | h_j + u - dmin     |
--- | low   | 2      | x_i >= low_i, i from 1           | 0 to i | low_i              |
--- | high  | 3      | x_i <= high_i, i from 1          | i to 0 | -high_i            |
+-- RULES 2.2:
+-- | kind | kind's number | rule | arrow from, to | amount |
+-- | setup, of a path from i to j | 0 | x_i + dmax + s_j + u <= x_j + P | i, j | dmax + s_j + u - P |
+-- | hold, of a path from i to j | 1 | x_i + dmin >= x_j + h_j + u | j, i | h_j + u - dmin |
+-- | low, of a register i from 1 up | 2 | x_i >= low_i | 0, i | low_i |
+-- | high, of a register i from 1 up | 3 | x_i <= high_i | i, 0 | -high_i |
 use Prim.Native.Nat.{ℕ, _<_}
 use lib.IntN.{ℤ, pos, negℤ, _+ℤ_, _-ℤ_}
 use lib.Signed.{_≤ℤ_}
 use Rattle.paper.specs.Network.{Network}
 
--- "Setup and hold are named by the path's number, low and high by the register's."
+-- RULES 2.4: "A setup or hold rule is named by its kind and the number of its path, a low or high rule by its kind and the number of its
+-- register."
 pub data Rule : Type 0 where
   Setup : ℕ → Rule
   Hold : ℕ → Rule
@@ -34,7 +36,7 @@ abbrev pub _≥ℤ_ : ℤ → ℤ → Type 0
 a ≥ℤ b = b ≤ℤ a
 
 module _ (N : Network) where
-  -- "The host has no low or high rule."
+  -- RULES 2.5: "every path has one setup rule and one hold rule, and every register from 1 up has one low rule and one high rule"
   abbrev pub Exists : Rule → Type 0
   Exists (Setup p) = p < N .paths
   Exists (Hold p) = p < N .paths
@@ -49,6 +51,19 @@ module _ (N : Network) where
       (x (N .from p) +ℤ N .dmin p) ≥ℤ (x (N .to p) +ℤ N .hold (N .to p) +ℤ N .uncertainty p)
   Holds P x (Low i) = x i ≥ℤ N .low i
   Holds P x (High i) = x i ≤ℤ N .high i
+
+  -- The same of two latencies as they are given, t at the tail of the rule's arrow and v at its head.
+  --
+  -- RULES 8.5:
+  -- | setup | t + dmax + s_j + u <= v + P |
+  -- | hold  | v + dmin >= t + h_j + u     |
+  -- | low   | v >= low_i                  |
+  -- | high  | t <= high_i                 |
+  abbrev pub HoldsAs : ℕ → Rule → ℤ → ℤ → Type 0
+  HoldsAs P (Setup p) t v = (t +ℤ N .dmax p +ℤ N .setup (N .to p) +ℤ N .uncertainty p) ≤ℤ (v +ℤ pos P)
+  HoldsAs P (Hold p) t v = (v +ℤ N .dmin p) ≥ℤ (t +ℤ N .hold (N .to p) +ℤ N .uncertainty p)
+  HoldsAs P (Low i) t v = v ≥ℤ N .low i
+  HoldsAs P (High i) t v = t ≤ℤ N .high i
 
   -- its arrow
   abbrev pub tail : Rule → ℕ
@@ -76,8 +91,8 @@ module _ (N : Network) where
   amount P (Low i) = base (Low i)
   amount P (High i) = base (High i)
 
-  -- By how much the rule is met, with latency a at the arrow's tail and b at its head: the greater side of the third column less the
-  -- other. Low and high do not read the host's latency.
+  -- By how much the rule is met, with latency a at the arrow's tail and b at its head: the side of the inequality that has to be the greater
+  -- less the other, so below 0 where it is not met. Low and high do not read the host's latency.
   abbrev pub slack : ℕ → Rule → ℤ → ℤ → ℤ
   slack P (Setup p) a b = (b +ℤ pos P) -ℤ (a +ℤ N .dmax p +ℤ N .setup (N .to p) +ℤ N .uncertainty p)
   slack P (Hold p) a b = (b +ℤ N .dmin p) -ℤ (a +ℤ N .hold (N .to p) +ℤ N .uncertainty p)

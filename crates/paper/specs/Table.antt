@@ -1,5 +1,5 @@
--- The table of numbers returned: its rows stand in the order in which they are tried, each with its number and with what it says of a
--- place. "The lowest number that applies is returned."
+-- The table of numbers returned: its rows stand in the order in which they are tried, each with its number and with what it says of a place.
+-- RULES 6.3: "Of the numbers from 1 on that apply, the lowest is returned; 0 where none applies."
 use mathlib.Core.Path.{_≡_}
 use mathlib.Core.List.{List, [], _∷_}
 use mathlib.Core.Bool.{Bool, true, false}

@@ -67,7 +67,7 @@ pub fn at(base: i32, period: i32) -> i32
     d.0
 }
 
-// "The latency at the arrow's head is at least the latency at its tail plus the amount": by how much.
+// RULES 2.3: "the latency at the arrow's head .. is at least the latency at its tail .. plus the amount": by how much.
 pub fn slack(amount: Delay, tail: Latency, head: Latency) -> Delay
     requires { ⌜ SmallArrow (amount .0) (tail .0) (head .0) ⌝ }
     ensures { λ d. ⌜ d .0 ≡ head .0 -ℤ (tail .0 +ℤ amount .0) ⌝ }

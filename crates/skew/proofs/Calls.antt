@@ -36,7 +36,7 @@ module _ (N : Network) (room : ℕ) where
   none-refused x p (inr (s, inr (t, inl g))) = refusal-apart x 9 (λ p. refl) (sym (g .0))
   none-refused x p (inr (s, inr (t, inr (u, g)))) = refusal-apart x 0 (λ p. refl) (sym (g .0))
 
-  -- "a schedule at some period, none up to the ceiling": what number 9 says
+  -- RULES 6.2: "there is a schedule at some period, but at none up to the ceiling": what number 9 says
   pub given-9 : (p : ℕ) → Given (scheduleRows N room) 9 p → NoneToCeiling N
   given-9 p (inl g) = let e = g .0 in absurd (omega arith)
   given-9 p (inr (s, inl g)) = let e = g .0 in absurd (omega arith)
@@ -60,7 +60,7 @@ module _ (t : List Row) {N : Network} {before after : List ℕ} {o : Outcome} (r
   pub rest-given : Clear t → ByRest
   rest-given c = given-rest t rows (outcomeNumber o) (outcomePlace o) c (r .given)
 
-  -- a refusal "given exactly when": the rows that come before 7 give its number and place
+  -- a refusal is given exactly when the rows that come before 7 give its number and place (RULES 6.3)
   pub refused-iff : OnePlaces t → (x : Refusal) → (o ≡ outcome.Refused x) ↔ Given t (refusalNumber x) (refusalPlace x)
   refused-iff places x = (to parted, from)
     where
@@ -76,7 +76,7 @@ module _ (t : List Row) {N : Network} {before after : List ℕ} {o : Outcome} (r
           let one = given-one (t ++ rows) both _ _ _ _ (r .given) h in
           outcome-known o (outcome.Refused x) (one .0) (one .1)
 
-  -- "accepted when no refusal that comes before 7 applies": exactly when the outcome is none
+  -- RULES 6.4: "accepted when none of the refusals that stand before 7 applies": exactly when the outcome is none
   pub clear-iff : Refuses t → Clear t ↔ ((x : Refusal) → o ≡ outcome.Refused x → ⊥)
   clear-iff refuses = (to, λ h. from h parted)
     where
@@ -93,7 +93,7 @@ module _ (t : List Row) {N : Network} {before after : List ℕ} {o : Outcome} (r
       clear-iff refuses .1 (λ x d. let f = ap refusalIn d in let z : _≡_ {A = ℕ} 0 1 = cc in omega arith)
 
   module _ (clear : Clear t) where
-    -- 7 "given exactly when": room below 14 + 16n
+    -- 7 (RULES 6.2) is given exactly when there is room below 14 + 16n
     pub room-iff : (o ≡ outcome.Room) ↔ (length before < 14 + 16 * N .registers)
     room-iff = (to (rest-given clear), from (rest-given clear))
       where
@@ -133,7 +133,7 @@ module _ (t : List Row) {N : Network} {before after : List ℕ} {o : Outcome} (r
           go (inr (inl g)) = absurd (g .1 .none P from (h .to-ceiling) (x, h .schedule))
           go (inr (inr e)) = e
 
-      -- 0 "given exactly when": there is an answer
+      -- 0 is given exactly when there is an answer (RULES 6.8)
       pub answered-iff : (o ≡ outcome.Answered) ↔ ((P : ℕ) × (x : ℕ → ℤ) × Answer N P x)
       answered-iff = (given, λ w. answer-returned (w .0) (w .1) (w .2))
         where
@@ -154,7 +154,7 @@ module _ (t : List Row) {N : Network} {before after : List ℕ} {o : Outcome} (r
           go un P low high s (inr (inl g)) = g .1 .none P (omega arith) high s
           go un P low high s (inr (inr e)) = un e
 
-      -- 8 "given exactly when": no schedule at any whole period, however large
+      -- 8 (RULES 6.2) is given exactly when there is no schedule at any whole period, however large
       pub no-period-iff : (o ≡ outcome.NoPeriod) ↔ NoPeriod N
       no-period-iff = (to (roomy (rest-given clear)), from (roomy (rest-given clear)))
         where
@@ -170,7 +170,7 @@ module _ (t : List Row) {N : Network} {before after : List ℕ} {o : Outcome} (r
               let w = answered-iff .0 d in
               absurd (n (w .0) (omega (arith, w .2 .from-floor)) (w .1, w .2 .schedule))
 
-      -- 9 "given exactly when": a schedule at some period, none up to the ceiling
+      -- 9 (RULES 6.2) is given exactly when there is a schedule at some period, but at none up to the ceiling
       pub none-to-ceiling-iff : (o ≡ outcome.NoneToCeiling) ↔ NoneToCeiling N
       none-to-ceiling-iff = (to (roomy (rest-given clear)), from (roomy (rest-given clear)))
         where

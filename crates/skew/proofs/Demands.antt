@@ -30,34 +30,35 @@ use Rattle.loops.proofs.Rules.{schedule-bars-loop}
 use Rattle.skew.specs.Proves.{ProvesLeast, ProvesNone, ProvesNoneToCeiling, LoopProves}
 use Rattle.skew.proofs.Numbers.{accepted-beyond}
 use Rattle.skew.proofs.Calls as calls
--- For every accepted network and every whole period from 1 up, a schedule exists exactly when no loop of rules, passing each register at
--- most once, contradicts itself.
+-- RULES 10.8: "For every accepted network and every whole period from 1 up, a schedule exists exactly when no loop contradicts itself."
 pub use Rattle.loops.proofs.Theorems.{schedule-iff-no-loop}
--- The answered period is the larger of the floor and the greatest period that any loop needs.
+-- of an answer, RULES 10.9: "The returned period is the larger of the floor and the greatest need."
 pub use Rattle.loops.proofs.Theorems.{period-is-greatest-need}
 
 -- ---- the answer
 
--- An answered network gets the smallest whole period from its floor to its ceiling at which any whole latencies meet every setup, hold and
--- window rule. At that period each register has the smallest latency it has in any such schedule. Of any network and any table of numbers.
+-- RULES 10.4: "An answered network gets the smallest whole period from its floor to its ceiling at which some whole latencies meet every
+-- setup, hold and window rule."
+-- RULES 10.5: "At that period each register gets the smallest latency that it has in any such schedule." Of any network and any table of
+-- numbers.
 pub returned-answer : {N : Network} {rows : List Row} {before after : List ℕ} (r : Result N rows before outcome.Answered after)
     → Answer N (r .output .period) (r .output .latency)
 returned-answer r = r .output .answer
 
 module _ (f : List ℕ) {before after : List ℕ} {o : Outcome} (a : Accepted f) (enough : 14 + 16 * networkOf f .registers ≤ length before) (r : FileResult f before o after) where
-  -- 0 "given exactly when": an accepted file with room enough is answered exactly when there is an answer.
+  -- 0 (RULES 6.8): an accepted file with room enough is answered exactly when there is an answer.
   pub answered-iff : (o ≡ outcome.Answered) ↔ ((P : ℕ) × (x : ℕ → ℤ) × Answer (networkOf f) P x)
   answered-iff = calls.answered-iff (faults f) r a enough (accepted-legal f a .floor-from)
 
-  -- An accepted file with room enough goes unanswered exactly when no such period exists.
+  -- RULES 10.6: "An accepted file with room enough goes without an answer exactly when no such period exists."
   pub unanswered-iff : (o ≡ outcome.Answered → ⊥) ↔ ((P : ℕ) → networkOf f .floor ≤ P → P ≤ networkOf f .ceiling → Scheduled (networkOf f) P → ⊥)
   unanswered-iff = calls.unanswered-iff (faults f) r a enough (accepted-legal f a .floor-from)
 
-  -- 8 "given exactly when": no schedule at any whole period, however large
+  -- 8 (RULES 6.2) is given exactly when there is no schedule at any whole period, however large
   pub refused-8-iff : (o ≡ outcome.NoPeriod) ↔ NoPeriod (networkOf f)
   refused-8-iff = calls.no-period-iff (faults f) r a enough (accepted-legal f a .floor-from)
 
-  -- 9 "given exactly when": a schedule at some period, none up to the ceiling
+  -- 9 (RULES 6.2) is given exactly when there is a schedule at some period, but at none up to the ceiling
   pub refused-9-iff : (o ≡ outcome.NoneToCeiling) ↔ NoneToCeiling (networkOf f)
   refused-9-iff = calls.none-to-ceiling-iff (faults f) r a enough (accepted-legal f a .floor-from)
 
@@ -67,7 +68,7 @@ module _ (f : List ℕ) {before after : List ℕ} {o : Outcome} (a : Accepted f)
 
 -- ---- its period, and the loop that is shown
 
--- So the returned period is the larger of the floor and the greatest period that any loop needs.
+-- So RULES 10.9: "The returned period is the larger of the floor and the greatest need."
 pub returned-period : (f : List ℕ) {before after : List ℕ} (r : FileResult f before outcome.Answered after)
     → GreatestNeed (networkOf f) (r .output .period)
 returned-period f r =
@@ -131,7 +132,7 @@ loop-shown t k N {before} outcome.NoneToCeiling r =
     let clear = calls.clear-beyond t r k refl in
     shown-none-to-ceiling N (r .output .loop) (calls.given-9 N (length before) 0 (calls.rest-given t r clear)) (r .output .refutes)
 
--- And when the period is above the floor, or there is no answer, a loop that proves it is shown, given room enough.
+-- RULES 10.10: "Where that period is above the floor, or where there is no answer, a loop that proves it is shown, given room enough."
 pub shown-loop : (f : List ℕ) {before after : List ℕ} (o : Outcome) (r : FileResult f before o after)
     → LoopProves (networkOf f) before o after (r .output)
 shown-loop f o r = loop-shown (faults f) (faults-refuse f) (networkOf f) o r

@@ -1,9 +1,9 @@
 -- The two public functions agree: of the answer that the scheduler returns, the rule question says yes to every rule. And latencies are a
 -- schedule exactly when it does. Rests on the laws of rules, by which a rule is met exactly when its inequality holds.
-use mathlib.Core.Path.{_≡_, refl, ap₂}
+use mathlib.Core.Path.{_≡_, refl}
 use mathlib.Core.Logic.{_↔_}
 use mathlib.Core.List.{List, _++_}
-use mathlib.Core.Bool.{Bool, true, false, _&&_}
+use mathlib.Core.Bool.{Bool, true, false}
 use Prim.Native.Nat.{ℕ, zero, suc, _≤_}
 use native.Mathlib.Omega.{arith}
 use lib.IntN.{ℤ, pos, negsuc}
@@ -14,12 +14,12 @@ use Rattle.paper.specs.declared.Reply.the-variants as reply
 use Rattle.paper.specs.Network.{Network}
 use Rattle.paper.specs.Rules.{Rule, Low, High, Exists, Met, tail, head, slack}
 use Rattle.paper.specs.Schedule.{Schedule, Answer}
-use Rattle.paper.specs.File.{natural, within, networkOf}
+use Rattle.paper.specs.File.{natural, networkOf}
 use Rattle.paper.specs.Table.{Row, Clear}
 use Rattle.paper.specs.Refusals.{Accepted, faults}
 use Rattle.paper.specs.Question.{Question, Asked, InRange, questionRows}
 use Rattle.paper.specs.Outcome.{FileResult}
-use Rattle.paper.proofs.Legal.{Legal, accepted-legal}
+use Rattle.paper.proofs.Legal.{Legal, is-within, accepted-legal}
 use Rattle.paper.proofs.RuleLaws.{met-is-rule}
 use Rattle.paper.proofs.TableLaws.{OnePlaces, one-places-append, question-one-place, faults-one-place}
 use Rattle.paper.proofs.NumberLaws.{reply-one}
@@ -28,20 +28,9 @@ use Rattle.skew.specs.Asks.{questionOf, LatenciesInRange, SaysYes, FileS
 use Rattle.skew.proofs.Numbers.{accepted-beyond}
 use Rattle.skew.proofs.Demands.{returned-answer}
 use Rattle.skew.proofs.Replies.{yes-reply, no-reply}
-use Rattle.whole.specs.Between.{Between}
 use Rattle.paper.specs.Limits.{mostPeriod, leastLatency, mostLatency}
 
--- a number between two others passes the test
-within-from : (low high z : ℤ) → Between low high z → within low high z ≡ true
-unfolding within
-within-from low high z b =
-    let f = b .from in
-    let t = b .to in
-    let p : leZ low z ≡ true = omega lin in
-    let q : leZ z high ≡ true = omega lin in
-    ap₂ (λ a c. a && c) p q
-
--- "low, high: -1,000,000 to 1,000,000": a schedule's latencies lie in their windows, and the host's is 0
+-- a schedule's latencies lie in their windows, these in -1,000,000 to 1,000,000 (RULES 5.6), and the host's is 0
 pub schedule-within : (N : Network) → Legal N → (P : ℕ) (x : ℕ → ℤ) → Schedule N P x → LatenciesInRange N x
 schedule-within N l P x s zero h = let z = s .host in record { from = omega lin; to = omega lin }
 schedule-within N l P x s (suc i) h =
@@ -59,9 +48,9 @@ module _ (N : Network) (l : Legal N) (P : ℕ) (from : 1 ≤ P) (to : P ≤ most
   in-range : InRange N (questionOf N P x r)
   in-range =
       record {
-        period-within = within-from (pos 1) (pos mostPeriod) (pos P) (record { from = omega lin; to = omega lin });
-        tail-within = within-from leastLatency mostLatency _ (w (tail N r) (tail-below N (legal-joined N l) r e));
-        head-within = within-from leastLatency mostLatency _ (w (head N r) (head-below N (legal-joined N l) r e));
+        period-within = is-within (pos 1) (pos mostPeriod) (pos P) (record { from = omega lin; to = omega lin });
+        tail-within = is-within leastLatency mostLatency _ (w (tail N r) (tail-below N (legal-joined N l) r e));
+        head-within = is-within leastLatency mostLatency _ (w (head N r) (head-below N (legal-joined N l) r e));
         rule = (r, asked);
       }
 
@@ -95,8 +84,8 @@ module _ (N : Network) (t : List Row) (clear : Clear t) (places : OnePlaces t) (
           let z : _≡_ {A = ℕ} 0 1 = cc in
           absurd (omega arith)
 
--- "Yes is given exactly when the named rule's inequality holds.": latencies in range, with 0 for the host, are a schedule exactly when the
--- rule question says yes to every rule.
+-- RULES 8.5: "the answer is yes exactly when the inequality of the rule holds": latencies in range, with 0 for the host, are a schedule
+-- exactly when the rule question says yes to every rule.
 pub schedule-iff-says : (N : Network) → Legal N → (t : List Row) → Clear t → OnePlaces t
     → (P : ℕ) → 1 ≤ P → P ≤ mostPeriod → (x : ℕ → ℤ) → x 0 ≡ pos 0 → LatenciesInRange N x
     → Schedule N P x ↔ ((r : Rule) → Exists N r → SaysYes N (t ++ questionRows N (questionOf N P x r)) (questionOf N P x r))
@@ -126,7 +115,8 @@ answered-question f a P x h =
     schedule-iff-yes f a P (omega (arith, l .floor-from)) (omega (arith, l .ceiling-to)) x (h .schedule .host)
     (schedule-within (networkOf f) l P x (h .schedule)) .0 (h .schedule)
 
--- So the two public functions agree: of what the scheduler returns, the rule question says yes to every rule.
+-- RULES 10.7: "The two calls agree: for an answered file the rule question says yes to every rule of the network, at the period and the
+-- latencies that were returned."
 pub returned-question : (f : List ℕ) {before after : List ℕ} (s : FileResult f before outcome.Answered after)
     → (r : Rule) → Exists (networkOf f) r → FileSaysYes f (questionOf (networkOf f) (s .output .period) (s .output .latency) r)
 returned-question f s = answered-question f (accepted-beyond f s refl) (s .output .period) (s .output .latency) (returned-answer s)

@@ -11,13 +11,12 @@ use mir.Facts.{toZ-ofZ}
 use Rattle.whole.proofs.Lin.{lin}
 use Rattle.paper.specs.Rules.{Rule, Setup, Hold, Low, High, base, amount}
 use Rattle.paper.specs.File.{natural, within, networkOf}
-use Rattle.paper.specs.Question.{Question, Asked}
+use Rattle.paper.specs.Question.{Question, asked, Asked}
 use Rattle.paper.proofs.Legal.{Legal, accepted-legal, both, within-is, natural-is}
 use Rattle.paper.proofs.RuleLaws.{tailRead, headRead}
 use Rattle.rules.specs.Amounts.{Small, SmallArrow}
 use Rattle.rules.proofs.Ranges.{small-between, small-less}
 use Rattle.rules.proofs.Amounts.{base-small, amount-small}
-use Rattle.skew.specs.Asked.{asked}
 use Rattle.skew.specs.Slack.{numbersWithin, Askable}
 
 -- ---- read back

@@ -1,6 +1,6 @@
--- Which number is returned when, as a sentence about a file's result for each row of "Numbers returned": the lowest that applies; 1 to 6
--- exactly when a look at the file finds that fault; 7 exactly when an accepted file finds too little room. What an accepted file with room
--- enough gets, `Demands` says. Each is what `Calls` says of the file's network and of the rows of its faults. Rests on `Calls`.
+-- Which number is returned when, as a sentence about a file's result for each row of RULES 6.2: the lowest that applies; 1 to 6 exactly when
+-- a look at the file finds that fault; 7 exactly when an accepted file finds too little room. What an accepted file with room enough gets,
+-- `Demands` says. Each is what `Calls` says of the file's network and of the rows of its faults. Rests on `Calls`.
 use mathlib.Core.Path.{_≡_, ap, _∙_}
 use mathlib.Core.Logic.{_↔_}
 use mathlib.Core.List.{List}
@@ -22,7 +22,8 @@ use Rattle.paper.proofs.TableLaws.{NoneBelow, Rising, given-row, given-lowest, 
 use Rattle.paper.proofs.NumberLaws.{none, refusalIn, refusal-above, refusal-known, faults-refuse, fault-of-row}
 use Rattle.skew.proofs.Calls as calls
 
--- "The lowest number that applies is returned.": where a table stands in the order of its numbers, no row with a lower number applies
+-- RULES 6.3: "Of the numbers from 1 on that apply, the lowest is returned": where a table stands in the order of its numbers, no row with a
+-- lower number applies
 pub lowest-given : {N : Network} {rows : List Row} {before after : List ℕ} {o : Outcome} → Rising 0 rows → Result N rows before o after
     → 0 < outcomeNumber o → NoneBelow (outcomeNumber o) rows
 lowest-given {rows = rows} {o = o} rising r h =
@@ -34,11 +35,11 @@ pub lowest-returned : (f : List ℕ) {before after : List ℕ} {o : Outcome} →
 lowest-returned f {before} r h = lowest-given (refusals-rising f (length before)) r h
 
 module _ (f : List ℕ) {before after : List ℕ} {o : Outcome} (r : FileResult f before o after) where
-  -- 1 to 6 "given exactly when": the outcome is a fault of the file exactly when a look at the file finds that fault
+  -- 1 to 6 (RULES 6.2): the outcome is a fault of the file exactly when a look at the file finds that fault
   pub fault-iff : (x : Fault) → (o ≡ outcome.Refused (refusal.File x)) ↔ Judged f (verdict.Faulty x)
   fault-iff x = calls.refused-iff (faults f) r (faults-one-place f) (refusal.File x)
 
-  -- "A file, or its network, is accepted when no refusal that comes before 7 applies.": when the outcome is none
+  -- RULES 6.4: "accepted when none of the refusals that stand before 7 applies": when the outcome is none
   pub accepted-unless : Accepted f ↔ ((x : Refusal) → o ≡ outcome.Refused x → ⊥)
   accepted-unless = calls.clear-iff (faults f) r (faults-refuse f)
 
@@ -56,6 +57,6 @@ module _ (f : List ℕ) {before after : List ℕ} {o : Outcome} (r : FileResult 
   pub accepted-beyond : refusalIn o ≡ none → Accepted f
   accepted-beyond e = calls.clear-beyond (faults f) r (faults-refuse f) e
 
-  -- 7 "given exactly when": an accepted file finds room below 14 + 16n
+  -- 7 (RULES 6.2) is given exactly when an accepted file finds room below 14 + 16n
   pub refused-7-iff : Accepted f → (o ≡ outcome.Room) ↔ (length before < 14 + 16 * networkOf f .registers)
   refused-7-iff a = calls.room-iff (faults f) r a

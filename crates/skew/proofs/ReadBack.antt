@@ -4,17 +4,16 @@ use mathlib.Core.Path.{_≡_, refl, sym, ap, _∙_}
 use mathlib.Core.List.{List, [], _∷_, _++_, append-assoc, append-nil}
 use Prim.Native.Nat.{ℕ, zero, suc, _+_, _*_, _≤_, _<_}
 use native.Mathlib.Omega.{arith}
-use native.Mathlib.Nat.{add-assoc, add-zero}
+use native.Mathlib.Nat.{add-zero}
 use native.Mathlib.Decide.{decLt}
 use lib.IntN.{ℤ, pos, negsuc}
 use lib.Signed.{_≤ℤ_}
 use Rattle.whole.proofs.Lin.{lin}
 use lib.ListN.{length, getD, drop, length-append}
-use lib.Seq.{getD-append-add}
 use mir.Syntax.{w32}
 use mir.Val.{SFits}
-use Rattle.whole.specs.Four.{wordAt, numberAt, four}
-use Rattle.whole.proofs.Four.{number-first, four-length}
+use Rattle.whole.specs.Four.{numberAt, four}
+use Rattle.whole.proofs.Four.{number-past, number-first, four-length}
 use Rattle.paper.specs.Network.{Network}
 use Rattle.paper.specs.Rules.{Rule, Setup, Hold, Low, High, Exists, kind, number, tail, head}
 use Rattle.paper.specs.declared.Outcome.{Outcome}
@@ -34,12 +33,7 @@ use Rattle.skew.specs.Reads.{Reads, ReadsBack}
 use Rattle.whole.specs.Between.{Between}
 use Rattle.paper.specs.Limits.{mostRegisters, mostPaths, mostPeriod, leastLatency, mostLatency}
 
--- a number is read past what stands before it
-number-past : (a s : List ℕ) (k : ℕ) → numberAt (a ++ s) (length a + k) ≡ numberAt s k
-unfolding numberAt wordAt
-number-past a s k = simp (add-assoc, getD-append-add)
-
--- so a number is read where its bytes stand
+-- a number is read where its bytes stand
 number-at : (after a rest : List ℕ) (z : ℤ) (i : ℕ) → after ≡ a ++ (four z ++ rest) → length a ≡ i → SFits w32 z → numberAt after i ≡ z
 number-at after a rest z i e n h = rw (e, ← n) (rw (← (add-zero (length a))) (number-past a (four z ++ rest) 0) ∙ number-first z rest h)
 
@@ -144,7 +138,7 @@ module _ (P n : ℕ) (x : ℕ → ℤ) (l : List Rule) (after past : List ℕ) (
         entry-number = λ j h. reads-entry j h .1;
       }
 
--- "`SK` 0, 0, count": the loop alone is an output with no latencies
+-- RULES 7.6: "`SK` with 0, 0 and the number of entries; no latencies": the loop alone is an output with no latencies
 no-records : (h e p after : List ℕ) → after ≡ (h ++ e) ++ p → after ≡ (h ++ [] ++ e) ++ p
 no-records h e p after b = rw (append-nil h) b
 
@@ -162,7 +156,7 @@ module _ (N : Network) (g : Legal N) where
   rule-small (Low i) e = omega (arith, g .registers-to)
   rule-small (High i) e = omega (arith, g .registers-to)
 
-  -- "passes each register at most once": a loop has no more entries than the network has registers
+  -- RULES 7.1: "A loop passes each register at most once, so it has at most n arrows"
   loop-small : (l : List Rule) → IsLoop N l → length l ≤ N .registers
   loop-small [] i = absurd (i .loop)
   loop-small (r ∷ l) i =

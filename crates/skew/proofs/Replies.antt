@@ -18,10 +18,9 @@ use Rattle.paper.specs.Rules.{Rule}
 use Rattle.paper.specs.File.{networkOf}
 use Rattle.paper.specs.Table.{Row, Given, Clear}
 use Rattle.paper.specs.Outcome.{Judged}
-use Rattle.paper.specs.Question.{Question, Asked, InRange, MetAsked, questionRows, Answers, FileAnswers}
+use Rattle.paper.specs.Question.{Question, asked, Asked, InRange, MetAsked, questionRows, Answers, FileAnswers}
 use Rattle.paper.proofs.TableLaws.{given-after}
 use Rattle.network.proofs.Verdicts.{judged-faulty}
-use Rattle.skew.specs.Asked.{asked}
 use Rattle.skew.specs.Slack.{numbersWithin, TellsRule, IsSlack}
 use Rattle.skew.proofs.Limits.{numbers-in, in-numbers}
 

@@ -27,7 +27,7 @@ use Rattle.skew.specs.Same.{SameAnswer, SameAlone, SameButLoop}
 
 -- ---- one number and one place
 
--- "The lowest number that applies is returned.": of one file and one room, one number with one place
+-- RULES 6.3: "Of the numbers from 1 on that apply, the lowest is returned": of one file and one room, one number with one place
 pub number-unique : (f : List ℕ) (room : ℕ) {n m p q : ℕ} → Given (refusals f room) n p → Given (refusals f room) m q → (n ≡ m) × (p ≡ q)
 number-unique f room g h = given-one (refusals f room) (refusals-one-place f room) _ _ _ _ g h
 
@@ -37,8 +37,8 @@ number-unique f room g h = given-one (refusals f room) (refusals-one-place f roo
 not-longer : {N : Network} {P Q : ℕ} {x y : ℕ → ℤ} → Answer N P x → Answer N Q y → P < Q → ⊥
 not-longer {P = P} {x = x} a b h = b .smallest P (a .from-floor) h x (a .schedule)
 
--- "The answer is the smallest whole P from floor to ceiling that has a schedule, with the smallest latency each register has over all
--- schedules at that P.": one period, and one latency for each register
+-- RULES 3.2: "The period is the smallest whole P from the floor to the ceiling .. at which there is a schedule. The latency of a register is
+-- the smallest that it has in any schedule at this P.": one period, and one latency for each register
 pub answer-unique : {N : Network} {P Q : ℕ} {x y : ℕ → ℤ} → Answer N P x → Answer N Q y → (P ≡ Q) × ((i : ℕ) → i < N .registers → x i ≡ y i)
 answer-unique {P = P} {Q} {x} {y} a b =
     let longer = not-longer a b in
@@ -51,7 +51,7 @@ answer-unique {P = P} {Q} {x} {y} a b =
           omega lin,
     )
 
--- "At the floor there is no loop"
+-- RULES 7.10: "An answer at the floor shows none"
 pub floor-no-loop : (N : Network) (P : ℕ) (l : List Rule) → Shown N P l → P ≡ N .floor → l ≡ []
 floor-no-loop N P [] s e = refl
 floor-no-loop N P (r ∷ l) s e = absurd (omega (arith, s .0))

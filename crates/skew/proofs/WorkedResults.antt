@@ -100,6 +100,6 @@ worked-promised c w = record { allowed = allowed; only = only }
           no-loop = row-no-loop (networkOf f) before after (c .result) (w .comes) l;
         }
 
--- "Cases A to F above (eleven in all) are checked .. as a single table under one proved statement.": the paper's results are the scheduler's
+-- RULES 11.7: "The eleven are one table, and one statement is proved of the whole of it": the paper's results are the scheduler's
 pub worked-results : All Promised cases
 worked-results = all-map worked-promised cases worked-cases

@@ -13,8 +13,8 @@ use Rattle.paper.specs.Question.{Question, InRange, Answers, questionRefusals}
 use Rattle.whole.specs.Between.{Between}
 use Rattle.paper.specs.Limits.{leastLatency, mostLatency}
 
--- whether rule r is met at period P by the latencies x: it "names a file, a period, a rule by kind and number, and the latencies at the
--- arrow's tail and head"
+-- whether rule r is met at period P by the latencies x. RULES 8.1: "The question names .. a period, a rule by its kind and number, and two
+-- latencies: that at the tail of the rule's arrow and that at its head."
 abbrev pub questionOf : Network → ℕ → (ℕ → ℤ) → Rule → Question
 questionOf N P x r =
     record {
@@ -25,7 +25,7 @@ questionOf N P x r =
       head-latency = x (head N r);
     }
 
--- "a latency is outside -1,000,000 to 1,000,000": none is
+-- RULES 8.3: "one of the latencies is outside -1,000,000 to 1,000,000": none is
 abbrev pub LatenciesInRange : Network → (ℕ → ℤ) → Type 0
 LatenciesInRange N x = (i : ℕ) → i < N .registers → Between leastLatency mostLatency (x i)
 

@@ -1,5 +1,4 @@
 -- What the contracts and theorems of the two public functions cite beside the paper.
-pub mod Asked
 pub mod Slack
 pub mod Same
 pub mod Proves

@@ -11,8 +11,7 @@ use Rattle.paper.specs.Rules.{Rule, Low, kind, number}
 use Rattle.paper.specs.Network.{Network}
 use Rattle.paper.specs.Outcome.{Left}
 
--- `SK` period, number of latencies, number of loop entries (14 bytes); then for each register `LT` latency (6 bytes); then for each loop
--- entry `ED` kind, number (10 bytes): each number is read at its place, past its record's mark of two bytes
+-- The numbers of the records `SK`, `LT` and `ED` (RULES 7.2 to 7.4): each is read at its place, past its record's mark of two bytes.
 pub record Reads (after : List ℕ) (P n : ℕ) (x : ℕ → ℤ) (l : List Rule) : Type 0 where
   pub period : numberAt after 2 ≡ pos P
   pub latencies : numberAt after 6 ≡ pos n
@@ -21,7 +20,7 @@ pub record Reads (after : List ℕ) (P n : ℕ) (x : ℕ → ℤ) (l : List Rule
   pub entry-kind : (j : ℕ) → j < length l → numberAt after (14 + 6 * n + 10 * j + 2) ≡ pos (kind (getD l j (Low 0)))
   pub entry-number : (j : ℕ) → j < length l → numberAt after (14 + 6 * n + 10 * j + 6) ≡ pos (number (getD l j (Low 0)))
 
--- by cases of the outcome: the answer, or the loop alone after "`SK` 0, 0, count"
+-- by cases of the outcome: the answer (RULES 7.5), or the loop alone (RULES 7.6)
 abbrev pub ReadsBack : (N : Network) (before : List ℕ) (o : Outcome) (after : List ℕ) → Left N o before after → Type 0
 ReadsBack N before outcome.Answered after l = Reads after (l .period) (N .registers) (l .latency) (l .loop)
 ReadsBack N before (outcome.Refused x) after l = Unit {0}

@@ -1,5 +1,5 @@
--- What a row of "Networks worked by hand" says of the scheduler's results: with room enough, the row's own outcome and bytes are allowed, and
--- nothing else is, but for the loop.
+-- What a row of the networks worked by hand (RULES 11.5) says of the scheduler's results: with room enough, the row's own outcome and bytes
+-- are allowed, and nothing else is, but for the loop.
 use mathlib.Core.Path.{_≡_}
 use mathlib.Core.List.{List, [], _++_}
 use Prim.Native.Nat.{ℕ, _+_, _*_, _≤_}

@@ -1,5 +1,5 @@
--- What two results of one call have in common, in the end everything but the loop that is shown: "no two different results satisfy it. The
--- one exception is the choice among loops."
+-- What two results of one call have in common, in the end everything but the loop that is shown. RULES 10.12: "no two different results
+-- satisfy the contract. There is one exception: which loop is shown (7.12)."
 use mathlib.Core.Path.{_≡_}
 use mathlib.Core.List.{List, []}
 use Prim.Native.Nat.{ℕ, _<_}
@@ -26,7 +26,7 @@ pub record SameAlone (l m : List Rule) (before after after′ : List ℕ) : Type
   pub one-loop : SameMembers l m → (l ≡ m) × (after ≡ after′)
 
 -- Two outputs, left with one outcome: number 7 and what comes before it leave one output; an answer, and numbers 8 and 9, leave one output but
--- for the loop, however the two outputs are read.
+-- for the loop, whatever period, latencies and loop the two outputs are said to hold.
 abbrev pub SameButLoop : Network → List ℕ → Outcome → List ℕ → List ℕ → Type 0
 SameButLoop N before outcome.Answered after after′ =
     (a : Answered N before after) (b : Answered N before after′) → SameAnswer N before after after′ a b

@@ -8,8 +8,7 @@ use Rattle.paper.specs.Network.{Network}
 use Rattle.paper.specs.Rules.{Rule, slack}
 use Rattle.paper.specs.File.{natural, within, networkOf}
 use Rattle.paper.specs.Refusals.{Accepted}
-use Rattle.paper.specs.Question.{Question, Asked, InRange}
-use Rattle.skew.specs.Asked.{asked}
+use Rattle.paper.specs.Question.{Question, asked, Asked, InRange}
 use Rattle.paper.specs.Limits.{mostPeriod, leastLatency, mostLatency}
 
 -- the ranges of the period and of the latencies at the arrow's tail and head

@@ -3,8 +3,7 @@
 ghost use mathlib.Core.Path.{_≡_};
 ghost use Rattle.paper.specs.File.{networkOf};
 ghost use Rattle.paper.specs.Refusals.{Accepted};
-ghost use Rattle.paper.specs.Question.{FileAnswers};
-ghost use Rattle.skew.specs.Asked.{asked};
+ghost use Rattle.paper.specs.Question.{asked, FileAnswers};
 ghost use Rattle.skew.specs.Slack.{numbersWithin, TellsRule, Askable, IsSlack};
 use network::read;
 use paper::Delay;
@@ -52,7 +51,7 @@ fn reply(file: &[u8], period: i32, kind: i32, number: i32, tail: i32, head: i32)
         Latency(tail),
         Latency(head),
     );
-    // "Here equality is met"
+    // RULES 2.6: "Equality meets a rule."
     if 0 <= s.0 { Reply::Yes } else { Reply::No }
 }
 
@@ -67,7 +66,7 @@ fn in_range(period: i32, tail: i32, head: i32) -> bool
     )
 }
 
-// Whether n registers and m paths have a rule of this kind and number. "The host has no low or high rule."
+// Whether n registers and m paths have a rule of this kind and number. RULES 2.5: "The host has no low rule and no high rule."
 fn exists(n: usize, m: usize, kind: i32, number: i32) -> bool
     ensures { λ r. ⌜ TellsRule n m kind number r ⌝ }
 {

@@ -14,7 +14,7 @@ mostPlaces = 2147483648
 abbrev pub packed : (number place met : ℕ) → ℕ
 packed number place met = number + place * 4294967296 + met * 9223372036854775808
 
--- "Yes and no both come with number 0 and place 0; a refusal carries neither": 1 for yes, 0 for anything else
+-- 1 for yes, 0 for anything else. RULES 8.6: "A yes and a no have number 0 and place 0 alike. A refusal is neither."
 abbrev pub yesOf : Reply → ℕ
 yesOf reply.Yes = 1
 yesOf reply.No = 0

@@ -3,7 +3,7 @@
 // arguments there: where its bytes stand, then how many there are.
 ghost use mathlib.Core.Path.{_≡_};
 ghost use Prim.Native.Nat.{_<_};
-ghost use Rattle.skew.specs.Asked.{asked};
+ghost use Rattle.paper.specs.Question.{asked};
 ghost use Rattle.skew_c.specs.Packed.{packed, mostPlaces, yesOf};
 ghost use Rattle.skew_c.specs.Returned.{Scheduled, Replied};
 use paper::Reply;

@@ -1,5 +1,5 @@
 -- Whatever the scheduler returns and leaves can be listed: what the answer's first record counts is small and stands in the answer.
--- And which ceiling its text has. Rests on `ReadBack.antt` of `skew` and `Answers.antt` of `listing`.
+-- And which ceiling its text has. Rests on `Texts.antt`, on `ReadBack.antt` of `skew` and on `Answers.antt` of `listing`.
 use mathlib.Core.Path.{_≡_, refl, sym, ap, subst, _∙_}
 use mathlib.Core.List.{List}
 use Prim.Native.Nat.{ℕ, _≤_}
@@ -19,8 +19,10 @@ use Rattle.skew.proofs.Numbers.{accepted-beyond}
 use Rattle.skew.proofs.ReadBack.{answer-small, alone-small}
 use Rattle.listing.specs.Listable.{Counted}
 use Rattle.listing.specs.Text.{textOf}
-use Rattle.skewlist.specs.Listing.{Listing, CeilingKnown, SameText, fileText}
+use Rattle.listing.specs.ResultText.{resultText}
+use Rattle.skewlist.specs.Listing.{Listing, CeilingKnown, SameText}
 use Rattle.listing.proofs.Answers.{answered-listable, loop-listable}
+use Rattle.skewlist.proofs.Texts.{result-text}
 
 -- a listing can be made of every result
 pub counted : (f : List ℕ) {before after : List ℕ} (o : Outcome) → FileResult f before o after → Counted o after
@@ -65,13 +67,14 @@ fits bytes before after n f e =
     let le : n ≤ length after = omega (arith, length-append bytes (drop (length bytes) before)) in
     (le, sym (length-take-le n after le))
 
--- the listing with a ceiling that leaves the text the file's
+-- the listing with a ceiling that leaves the text the file's: it is the result's own text
 pub listed-as : (f : List ℕ) {before answer blank text : List ℕ} {n : ℕ} (o : Outcome) {y z : ℤ} → FileResult f before o answer
     → SameText f o z → y ≡ z → (Front (textOf y o answer) blank text) × (n ≡ length (textOf y o answer))
     → (Listing f before answer blank text n) × Counts n text
 listed-as f {before} {answer} {blank} {text} {n} o {y} {z} r same is e =
-    let w : (Front (fileText f o answer) blank text) × (n ≡ length (fileText f o answer)) =
-    subst (λ (l : List ℕ). (Front l blank text) × (n ≡ length l)) (ap (λ x. textOf x o answer) is ∙ same answer) e in (
+    let own : List ℕ = resultText (networkOf f) before o answer (r .output) in
+    let w : (Front own blank text) × (n ≡ length own) =
+    subst (λ (l : List ℕ). (Front l blank text) × (n ≡ length l)) (ap (λ x. textOf x o answer) is ∙ same answer ∙ result-text f o r) e in (
       record { outcome = o; result = r; front = w .0; size-is = w .1 },
-      fits (fileText f o answer) blank text n (w .0) (w .1),
+      fits own blank text n (w .0) (w .1),
     )

@@ -1,8 +1,9 @@
 // Lists the answer to a network file: the file comes on standard input, the text goes to standard output. Where the one cannot be read or
 // the other not be written, it says so on standard error.
-ghost use Prim.Native.Nat.{_≤_};
+ghost use Prim.Native.Nat.{_+_, _*_, _≤_, _<_};
 ghost use lib.ListN.{length};
 ghost use Rattle.io.specs.Counts.{Counts};
+ghost use Rattle.paper.specs.Limits.{mostRegisters, mostPaths};
 ghost use Rattle.skewlist.specs.Listing.{Listing, CeilingKnown, SameText};
 ghost use Rattle.listing.specs.Listable.{textRoom};
 use libc::STDERR_FILENO;
@@ -14,7 +15,8 @@ use paper::limits::MOST_PATHS;
 use paper::limits::MOST_REGISTERS;
 
 // One byte more than the longest legal file. A file that fills this room is too long for any network, whatever follows, and is refused by
-// what its first bytes say, as the whole of it would be.
+// what its first bytes say, as the whole of it would be: `cut-refused` (paper/proofs/Cut.antt) and, of the listing, `cut-listed`
+// (proofs/CutText.antt), for every room above the longest file, as `serve` asks for it.
 const FILE_ROOM: usize = 22 + 18 * (MOST_REGISTERS + MOST_PATHS) + 1;
 
 const ANSWER_ROOM: usize = 14 + 16 * MOST_REGISTERS;
@@ -63,7 +65,9 @@ fn ended() -> bool {
     libc::read(STDIN_FILENO, &mut more) == 0
 }
 
+// Where the file's room is filled, what follows in the input is not read.
 fn serve(file: &mut [u8], out: &mut [u8], text: &mut [u8])
+    requires { ⌜ 22 + 18 * (mostRegisters + mostPaths) < length (now file) ⌝ }
     requires { ⌜ textRoom ≤ length (now text) ⌝ }
 {
     let got = io::read_full(STDIN_FILENO, file);

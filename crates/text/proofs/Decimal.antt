@@ -85,7 +85,7 @@ headed =
       λ g. rw (List·getD-append (decimal (n / 10)) ((48 + n % 10) ∷ []) 0 0 (r .0)) (r .1 (omega arith)),
     ))
 
--- "no needless zeros"
+-- RULES 9.4: "no number has a needless 0"
 pub decimal-first : (n : ℕ) → 0 < n → 48 < getD (decimal n) 0 0
 decimal-first n = headed n .1
 

@@ -8,8 +8,8 @@ use Prim.Native.Nat.{ℕ, suc, _+_, _-_, _*_, _/_, _%_, _≤_, _<_}
 use native.Mathlib.Omega.{arith}
 use lib.IntN.{ℤ, pos, negsuc, _-ℤ_}
 use lib.ListN.{length, getD}
-use lib.Seq.{sets}
-use native.Mathlib.Nat.{add-zero}
+use lib.Seq.{sets, getD-append-add}
+use native.Mathlib.Nat.{add-assoc, add-zero}
 use lib.Dec.{ltb}
 use borrow.Author.Tests.{lt-ltb, le-ltb}
 use mir.Syntax.{w32}
@@ -70,12 +70,17 @@ word-back s i u room h =
     let e3 : getD (sets s i (bytesOf u)) (i + 3) 0 ≡ u / 16777216 % 256 = stores-at 0 (bytesOf u) s i 3 room (omega arith) in
     omega (arith, quarters u h)
 
--- "written then read gives the number back"
+-- what is written is read back as the number that was written
 pub number-back : (s : List ℕ) (i : ℕ) (z : ℤ) → i + 4 ≤ length s → SFits w32 z → numberAt (sets s i (four z)) i ≡ z
 unfolding numberAt four
 number-back s i z room h = rw (word-back s i (wordOf z) room (word-small z h)) (signed-word z h)
 
--- as it is at the front of what follows
+-- a number is read past what stands before it
+pub number-past : (a s : List ℕ) (k : ℕ) → numberAt (a ++ s) (length a + k) ≡ numberAt s k
+unfolding numberAt wordAt
+number-past a s k = simp (add-assoc, getD-append-add)
+
+-- and a number that was written is read at the front of what follows
 pub number-first : (z : ℤ) (rest : List ℕ) → SFits w32 z → numberAt (four z ++ rest) 0 ≡ z
 unfolding four bytesOf
 number-first z rest h = number-back (four z ++ rest) 0 z (omega arith) h
@@ -85,13 +90,13 @@ pub four-length : (z : ℤ) → length (four z) ≡ 4
 unfolding four bytesOf
 four-length z = refl
 
--- "every byte outside keeps its value"
+-- every byte outside the four keeps its value
 pub outside-kept : (s : List ℕ) (i j : ℕ) (z : ℤ) → (j < i) ⊎ (i + 4 ≤ j) → getD (sets s i (four z)) j 0 ≡ getD s j 0
 unfolding four bytesOf
 outside-kept s i j z (inl h) = stores-before 0 (four z) s i j h
 outside-kept s i j z (inr h) = stores-after 0 (four z) s i j h
 
--- "each number of i32 has exactly one such writing": four bytes that stand for z are the four bytes of z
+-- a number of 32 bits has one writing: four bytes that stand for z are the four bytes of z
 pub one-writing : (a b c d : ℕ) (z : ℤ) → a < 256 → b < 256 → c < 256 → d < 256
     → signedOf (a + 256 * b + 65536 * c + 16777216 * d) ≡ z → a ∷ b ∷ c ∷ d ∷ [] ≡ four z
 unfolding four bytesOf

@@ -1,4 +1,4 @@
--- "numbers of four bytes each, two's complement, low byte first"
+-- RULES 5.1: "A number takes four bytes, in two's complement, with the low byte first."
 use mathlib.Core.List.{List, [], _∷_}
 use mathlib.Core.Bool.{cond}
 use Prim.Native.Nat.{ℕ, suc, _+_, _-_, _*_, _/_, _%_}

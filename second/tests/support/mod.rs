@@ -8,7 +8,7 @@ use second::paper::{Kind, Network, Rule};
 use second::rng::Rng;
 use second::wire::fresh_buffer;
 
-/// A worked case: its name, its network and what the paper says of it. The period is 0 for a refusal.
+/// A worked case: its name, its network and what RULES 11.5 says of it. The period is 0 for a refusal.
 pub struct Case {
     pub name: &'static str,
     pub draft: Draft,

@@ -12,8 +12,7 @@ use Rattle.paper.specs.File.{networkOf}
 use Rattle.paper.specs.Refusals.{faults}
 use Rattle.paper.specs.declared.Reply.{Reply}
 use Rattle.paper.specs.Table.{Row}
-use Rattle.paper.specs.Question.{Question, InRange, FileAnswers}
-use Rattle.skew.specs.Asked.{asked}
+use Rattle.paper.specs.Question.{Question, asked, InRange, FileAnswers}
 use Rattle.skew.proofs.Limits.{read, asked-read}
 use Rattle.skew.proofs.Replies.{is-in-range, no-rule, no-numbers, question-reply, slack-yes, slack-no}
 use Rattle.skew.proofs.question.reply.Statement.{statement}

@@ -8,11 +8,10 @@ use mir.Facts.{toZ-ofZ}
 use Rattle.paper.specs.Network.{Network}
 use Rattle.paper.specs.Rules.{Setup, Hold, Low, High, base, amount}
 use Rattle.paper.specs.File.{natural, networkOf}
-use Rattle.paper.specs.Question.{Question, Asked}
+use Rattle.paper.specs.Question.{Question, asked, Asked}
 use Rattle.network.proofs.Counts.{natural-from}
 use Rattle.network.proofs.Ranges.{PathRanges, path-ranges, register-ranges}
 use Rattle.rules.proofs.Ranges.{small-register, small-ends}
-use Rattle.skew.specs.Asked.{asked}
 use Rattle.skew.proofs.Limits.{read, period-is, small-arrow, period-fits}
 use Rattle.skew.proofs.Named.{matched, cast-is, number-from, named, named-last, asked-slack}
 use Rattle.skew.proofs.question.slack.Statement.{statement}
