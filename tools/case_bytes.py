@@ -2,15 +2,15 @@
 """Writes the files of the worked networks, byte by byte, as a module of proofs: `tools/case_bytes.py` prints it.
 
 The bytes come from crates/exam/stdin, the requests that are stored for `exam`, and not from the definitions. The module states that the
-definitions give each worked network these bytes, a line for each record. `test_case_bytes.py` holds crates/paper/proofs/CaseBytes.antt to what
-this prints: `tools/case_bytes.py > crates/paper/proofs/CaseBytes.antt` writes it anew.
+definitions give each worked network these bytes, a line for each record. `test_case_bytes.py` holds crates/worked/proofs/CaseBytes.antt to what
+this prints: `tools/case_bytes.py > crates/worked/proofs/CaseBytes.antt` writes it anew.
 """
 import pathlib
 import sys
 
 ROOT = pathlib.Path(__file__).resolve().parent.parent
 STDIN = ROOT / "crates" / "exam" / "stdin"
-MODULE = ROOT / "crates" / "paper" / "proofs" / "CaseBytes.antt"
+MODULE = ROOT / "crates" / "worked" / "proofs" / "CaseBytes.antt"
 NAMES = ["A", "A2", "A3", "A4", "A5", "A6", "A7", "B", "D", "E", "F"]
 HEADER, RECORD = 22, 18
 
@@ -19,7 +19,7 @@ TOP = """-- The files of the worked networks, byte by byte and a line for each r
 use mathlib.Core.Path.{_≡_, refl}
 use mathlib.Core.List.{[], _∷_}
 use Rattle.whole.specs.Four.{wordOf, bytesOf, four}
-use Rattle.paper.specs.Cases.{fileOf, CASES}
+use Rattle.worked.specs.Cases.{fileOf, CASES}
 """
 
 STATEMENT = """

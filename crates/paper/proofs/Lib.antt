@@ -9,11 +9,3 @@ pub mod TableLaws
 pub mod NumberLaws
 pub mod OutputLaws
 pub mod Greatest
-pub mod Tests
-pub mod CaseTests
-pub mod WorkedCases
-pub mod CaseBytes
-pub mod Refusing
-pub mod RejectionTests
-pub mod RejectedCases
-pub mod RejectedQuestionCases

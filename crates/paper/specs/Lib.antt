@@ -12,6 +12,3 @@ pub mod Numbers
 pub mod Output
 pub mod Outcome
 pub mod Question
-pub mod Cases
-pub mod Rejected
-pub mod RejectedQuestions

@@ -14,10 +14,10 @@ use Rattle.paper.specs.Table.{Given}
 use Rattle.paper.specs.Refusals.{refusals}
 use Rattle.paper.specs.Numbers.{outcomeNumber, outcomePlace}
 use Rattle.paper.specs.Outcome.{Left, FileResult}
-use Rattle.paper.specs.Cases.{Expected, answered, refused-8, refused-9, Case, Comes, numberOf, Worked, fileOf, cases}
+use Rattle.worked.specs.Cases.{Expected, answered, refused-8, refused-9, Case, Comes, numberOf, Worked, fileOf, cases}
 use Rattle.paper.proofs.TableLaws.{refusals-one-place}
 use Rattle.paper.proofs.NumberLaws.{outcome-one}
-use Rattle.paper.proofs.WorkedCases.{worked-cases}
+use Rattle.worked.proofs.WorkedCases.{worked-cases}
 use Rattle.skew.specs.Rows.{outcomeOf, loopOf, rowBytes, showing, AsRow, Promised}
 use Rattle.paper.proofs.OutputLaws.{latencies-same}
 use Rattle.paper.proofs.LoopLaws.{all-map}

@@ -12,7 +12,7 @@ use Rattle.paper.specs.File.{networkOf}
 use Rattle.paper.specs.Output.{skewRecord, latencyRecords, entryRecords, Front}
 use Rattle.paper.specs.Numbers.{outcomeNumber, outcomePlace}
 use Rattle.paper.specs.Outcome.{FileResult}
-use Rattle.paper.specs.Cases.{Expected, answered, refused-8, refused-9, Case, Comes, numberOf, fileOf}
+use Rattle.worked.specs.Cases.{Expected, answered, refused-8, refused-9, Case, Comes, numberOf, fileOf}
 use Rattle.paper.specs.Limits.{roomFor}
 
 -- the outcome, the loop and the bytes that a row names

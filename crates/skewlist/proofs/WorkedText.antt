@@ -11,7 +11,7 @@ use Rattle.paper.specs.Limits.{roomFor}
 use Rattle.paper.specs.Rules.{Setup, Hold}
 use Rattle.paper.specs.Output.{skewRecord, latencyRecord, entryRecord}
 use Rattle.paper.specs.Outcome.{FileResult}
-use Rattle.paper.specs.Cases.{caseA, cases, fileOf}
+use Rattle.worked.specs.Cases.{caseA, cases, fileOf}
 use Rattle.skew.specs.Rows.{rowBytes}
 use Rattle.skew.proofs.WorkedResults.{worked-results}
 use Rattle.listing.specs.Text.{answeredText}

@@ -5,11 +5,11 @@ use mathlib.Core.List.{[], _∷_}
 use lib.IntN.{pos, negℤ}
 use lib.ListN.{length}
 use Rattle.whole.specs.Four.{wordAt, signedOf, numberAt, wordOf, bytesOf, four}
 use Rattle.paper.specs.Rules.{Setup, Hold}
 use Rattle.paper.specs.Chains.{All}
 use Rattle.paper.specs.File.{marked, within, windowed, headed, counted, sized, ranged, registerOk, pathOk, networkOf}
-use Rattle.paper.specs.Cases.{Worked, fileOf, networkA, cases, caseA, caseA2, caseA3, caseA4, caseA5, caseA6, caseA7, caseB, caseD, caseE, caseF}
-use Rattle.paper.proofs.CaseTests.{workedTest, by-chains, by-loop, by-later}
+use Rattle.worked.specs.Cases.{Worked, fileOf, networkA, cases, caseA, caseA2, caseA3, caseA4, caseA5, caseA6, caseA7, caseB, caseD, caseE, caseF}
+use Rattle.worked.proofs.CaseTests.{workedTest, by-chains, by-loop, by-later}
 
 pub row-A : Worked caseA
 unfolding fileOf networkOf headed counted sized ranged registerOk pathOk marked within windowed numberAt wordAt signedOf four bytesOf wordOf

@@ -7,14 +7,14 @@ use Prim.Native.Nat.{ℕ, suc, _+_, _*_, _≤_, _<_}
 use lib.IntN.{ℤ, pos, negℤ}
 use lib.ListN.{length, getD, take, drop}
 use Rattle.whole.specs.Four.{four}
 use Rattle.paper.specs.Network.{Network}
 use Rattle.paper.specs.Rules.{Rule, Setup, Hold, Low, High, Exists}
 use Rattle.paper.specs.Schedule.{Schedule, Answer, Refutes, Shown}
 use Rattle.paper.specs.File.{networkOf}
 use Rattle.paper.specs.Table.{Given}
 use Rattle.paper.specs.Refusals.{Accepted, refusals}
 use Rattle.paper.specs.Question.{Question, questionRefusals}
-use Rattle.paper.specs.Cases.{Described, fileOf, networkA, networkD, hostAlone}
+use Rattle.worked.specs.Cases.{Described, fileOf, networkA, networkD, hostAlone}
 
 -- ---- a file with a slip in it
 

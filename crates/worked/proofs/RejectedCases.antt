@@ -6,14 +6,14 @@ use mathlib.Core.List.{List, [], _∷_, _++_}
 use lib.IntN.{pos, negℤ}
 use lib.ListN.{length}
 use Rattle.whole.specs.Four.{wordAt, signedOf, numberAt, wordOf, bytesOf, four}
 use Rattle.paper.specs.Rules.{Setup, Hold}
 use Rattle.paper.specs.Chains.{All}
 use Rattle.paper.specs.File.{marked, within, windowed, headed, counted, sized, ranged, registerOk, pathOk, networkOf}
-use Rattle.paper.specs.Cases.{fileOf, networkA, caseA, caseA4, caseA7, caseD, caseF}
-use Rattle.paper.specs.Rejected.{Rejection, Rejected, A, heads, counts, lengths, ranges, registerRows, pathRows, several, rooms, rules, loops, shows, schedules, answers, groups, joined, rejections}
-use Rattle.paper.proofs.Tests.{every}
-use Rattle.paper.proofs.RejectionTests.{rejectedTest, shortTest, byLoop, byShorter, byFloor, byCeiling, byLower}
-use Rattle.paper.proofs.WorkedCases.{row-A, row-A4, row-A7, row-D, row-F}
+use Rattle.worked.specs.Cases.{fileOf, networkA, caseA, caseA4, caseA7, caseD, caseF}
+use Rattle.worked.specs.Rejected.{Rejection, Rejected, A, heads, counts, lengths, ranges, registerRows, pathRows, several, rooms, rules, loops, shows, schedules, answers, groups, joined, rejections}
+use Rattle.worked.proofs.Tests.{every}
+use Rattle.worked.proofs.RejectionTests.{rejectedTest, shortTest, byLoop, byShorter, byFloor, byCeiling, byLower}
+use Rattle.worked.proofs.WorkedCases.{row-A, row-A4, row-A7, row-D, row-F}
 
 -- what holds of every row of two groups holds of both in one list, and so of all groups
 all-both : (l m : List Rejection) → All Rejected l → All Rejected m → All Rejected (l ++ m)

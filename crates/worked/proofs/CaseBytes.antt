@@ -3,7 +3,7 @@
 use mathlib.Core.Path.{_≡_, refl}
 use mathlib.Core.List.{[], _∷_}
 use Rattle.whole.specs.Four.{wordOf, bytesOf, four}
-use Rattle.paper.specs.Cases.{fileOf, caseA, caseA2, caseA3, caseA4, caseA5, caseA6, caseA7, caseB, caseD, caseE, caseF}
+use Rattle.worked.specs.Cases.{fileOf, caseA, caseA2, caseA3, caseA4, caseA5, caseA6, caseA7, caseB, caseD, caseE, caseF}
 
 file-A : fileOf (caseA .network)
     ≡ 78 ∷ 87 ∷ 3 ∷ 0 ∷ 0 ∷ 0 ∷ 3 ∷ 0 ∷ 0 ∷ 0 ∷ 1 ∷ 0 ∷ 0 ∷ 0 ∷ 100 ∷ 0 ∷ 0 ∷ 0 ∷ 0 ∷ 0 ∷ 0 ∷ 0

@@ -4,9 +4,9 @@
 -- `QuestionRejected` says of a row what the definitions must say, and `proofs/RejectedQuestionCases.antt` shows it for the whole table.
 use mathlib.Core.List.{List, [], _∷_, _++_}
 use lib.IntN.{pos}
 use Rattle.paper.specs.Table.{Given}
 use Rattle.paper.specs.Question.{Question, asked, questionRefusals}
-use Rattle.paper.specs.Rejected.{fileA, minus}
+use Rattle.worked.specs.Rejected.{fileA, minus}
 
 -- ---- a row, and what must be so
 

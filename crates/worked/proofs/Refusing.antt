@@ -11,8 +11,8 @@ use lib.Signed.{leZ, ltZ, _≤ℤ_, _<ℤ_}
 use lib.Dec.{leb, ltb, eqb}
 use borrow.Author.Tests.{leb-true, ltb-true, eqb-true, not-true}
 use Rattle.whole.proofs.Lin.{lin}
 use Rattle.paper.specs.Chains.{All}
-use Rattle.paper.proofs.Tests.{Test, via, never}
+use Rattle.worked.proofs.Tests.{Test, via, never}
 
 -- of two tests one has passed
 pub one-of : (a b : Bool) → a || b ≡ true → (a ≡ true) ⊎ (b ≡ true)

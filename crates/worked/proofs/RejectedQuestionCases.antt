@@ -13,23 +13,23 @@ use lib.Signed.{_≤ℤ_}
 use borrow.Author.Tests.{not-true}
 use Rattle.whole.specs.Four.{wordAt, signedOf, numberAt, wordOf, bytesOf, four}
 use Rattle.whole.proofs.Lin.{lin, true-not-false}
 use Rattle.paper.specs.Network.{Network}
 use Rattle.paper.specs.Rules.{Rule, Setup, Hold, Low, High, kind, number, Exists}
 use Rattle.paper.specs.Chains.{All}
 use Rattle.paper.specs.File.{natural, within, networkOf}
 use Rattle.paper.specs.Limits.{mostPeriod, leastLatency, mostLatency}
 use Rattle.paper.specs.Table.{Given}
 use Rattle.paper.specs.Refusals.{faults}
 use Rattle.paper.specs.Question.{Question, Asked, InRange, questionRows, questionRefusals}
-use Rattle.paper.specs.Cases.{fileOf}
-use Rattle.paper.specs.Rejected.{fileA}
-use Rattle.paper.specs.RejectedQuestions.{QuestionRejection, bound, taken, QuestionRejected, periods, latencies, kinds, numbers, unread, unbounded, questionRejections}
+use Rattle.worked.specs.Cases.{fileOf}
+use Rattle.worked.specs.Rejected.{fileA}
+use Rattle.worked.specs.RejectedQuestions.{QuestionRejection, bound, taken, QuestionRejected, periods, latencies, kinds, numbers, unread, unbounded, questionRejections}
 use Rattle.paper.proofs.TableLaws.{given-after}
-use Rattle.paper.proofs.Tests.{Test, via, pair, isTrue, atMostℤ, every}
-use Rattle.paper.proofs.Refusing.{refuting, notBoth, notAtMostℤ}
-use Rattle.paper.proofs.CaseTests.{existsTest}
-use Rattle.paper.proofs.RejectionTests.{noRule}
-use Rattle.paper.proofs.WorkedCases.{row-A}
+use Rattle.worked.proofs.Tests.{Test, via, pair, isTrue, atMostℤ, every}
+use Rattle.worked.proofs.Refusing.{refuting, notBoth, notAtMostℤ}
+use Rattle.worked.proofs.CaseTests.{existsTest}
+use Rattle.worked.proofs.RejectionTests.{noRule}
+use Rattle.worked.proofs.WorkedCases.{row-A}
 
 -- ---- tests: two whole numbers are one, or are not; a test does not pass
 

@@ -11,23 +11,23 @@ use lib.Signed.{_≤ℤ_, _<ℤ_}
 use borrow.Author.Tests.{lt-leb}
 use Rattle.whole.specs.Sums.{total}
 use Rattle.whole.proofs.Lin.{lin, plus}
 use Rattle.paper.specs.Network.{Network}
 use Rattle.paper.specs.Rules.{Rule, Setup, Hold, Low, High, Exists, Holds, tail, head, amount, slack}
 use Rattle.paper.specs.Chains.{All, Chain, Once, Loop, Listed}
 use Rattle.paper.specs.Schedule.{Schedule, Contradicts, Answer, Refutes, Shown}
 use Rattle.paper.specs.File.{headed, counted, sized, ranged, registers, paths, registerOk, pathOk, networkOf}
 use Rattle.paper.specs.Table.{Fails, Lowest}
 use Rattle.paper.specs.Limits.{roomFor}
 use Rattle.paper.specs.Refusals.{faults, scheduleRows}
 use Rattle.paper.specs.Question.{questionRows}
-use Rattle.paper.specs.Cases.{Case, numberOf, Worked, fileOf}
-use Rattle.paper.specs.Rejected.{Rejection, refused, edge, short, missing, no-loop, until, unshown, unmet, unanswered, not-least, Refused, Rejected, putNumber}
+use Rattle.worked.specs.Cases.{Case, numberOf, Worked, fileOf}
+use Rattle.worked.specs.Rejected.{Rejection, refused, edge, short, missing, no-loop, until, unshown, unmet, unanswered, not-least, Refused, Rejected, putNumber}
 use Rattle.paper.proofs.RuleLaws.{met-is-rule, amount-falls}
 use Rattle.paper.proofs.LoopLaws.{no-schedule}
 use Rattle.paper.proofs.TableLaws.{ByRow, given-before, given-after}
-use Rattle.paper.proofs.Tests.{Test, via, pair, never, isTrue, less, same, differ, atMost, lessℤ, below}
-use Rattle.paper.proofs.Refusing.{either, refuting, notBoth, impossible, isFalse, notLess, notAtMost, notDiffer, notAtMostℤ, notLessℤ, notEvery, notBelow}
-use Rattle.paper.proofs.CaseTests.{passing, all-passing, acceptedTest, existsTest, refutesTest, scheduleTest, rowOf}
+use Rattle.worked.proofs.Tests.{Test, via, pair, never, isTrue, less, same, differ, atMost, lessℤ, below}
+use Rattle.worked.proofs.Refusing.{either, refuting, notBoth, impossible, isFalse, notLess, notAtMost, notDiffer, notAtMostℤ, notLessℤ, notEvery, notBelow}
+use Rattle.worked.proofs.CaseTests.{passing, all-passing, acceptedTest, existsTest, refutesTest, scheduleTest, rowOf}
 
 -- ---- a file that is refused
 

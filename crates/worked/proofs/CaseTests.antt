@@ -14,19 +14,19 @@ use borrow.Author.Tests.{le-leb}
 use Rattle.whole.specs.Four.{wordAt, signedOf, numberAt, wordOf, bytesOf, four}
 use Rattle.whole.specs.Sums.{total}
 use Rattle.whole.proofs.Lin.{lin}
 use Rattle.paper.specs.Network.{Network}
 use Rattle.paper.specs.Rules.{Rule, Setup, Hold, Low, High, Exists, Holds, tail, head, amount, slack}
 use Rattle.paper.specs.Chains.{All, Chain, Once, Loop, Listed}
 use Rattle.paper.specs.Schedule.{Schedule, Contradicts, setups, Answer, Refutes, Shown}
 use Rattle.paper.specs.File.{marked, within, windowed, headed, counted, sized, ranged, registers, paths, registerOk, pathOk, networkOf}
 use Rattle.paper.specs.Table.{Fails, Lowest, Given}
 use Rattle.paper.specs.Refusals.{faults, refusals, scheduleRows, Accepted}
-use Rattle.paper.specs.Cases.{Expected, answered, refused-8, refused-9, Case, Comes, numberOf, Worked, fileOf, cases}
+use Rattle.worked.specs.Cases.{Expected, answered, refused-8, refused-9, Case, Comes, numberOf, Worked, fileOf, cases}
 use Rattle.paper.proofs.Legal.{accepted-legal}
 use Rattle.paper.proofs.RuleLaws.{met-is-rule}
 use Rattle.paper.proofs.LoopLaws.{contradicts-always, chain-binds-schedule, no-schedule}
 use Rattle.paper.proofs.TableLaws.{given-after, passed, all-passed}
-use Rattle.paper.proofs.Tests.{Test, via, pair, nothing, never, isTrue, less, atMost, same, differ, atMostℤ, lessℤ, every, below}
+use Rattle.worked.proofs.Tests.{Test, via, pair, nothing, never, isTrue, less, atMost, same, differ, atMostℤ, lessℤ, every, below}
 
 -- ---- an accepted file
 

@@ -1,0 +1,9 @@
+-- The tables meet the definitions: each row by a test that computes. Callers read `worked-cases`.
+pub mod Tests
+pub mod CaseTests
+pub mod WorkedCases
+pub mod CaseBytes
+pub mod Refusing
+pub mod RejectionTests
+pub mod RejectedCases
+pub mod RejectedQuestionCases
