@@ -117,6 +117,6 @@ rejected =
     )
 
 -- and no row is left out
-hundred-and-nine : length rejections ≡ 109
+hundred-and-eleven : length rejections ≡ 111
 unfolding rejections
-hundred-and-nine = refl
+hundred-and-eleven = refl

@@ -214,7 +214,7 @@ rooms =
 -- ---- rules, loops and answers
 
 -- RULES 2.5: "every path has one setup rule and one hold rule, and every register from 1 up has one low rule and one high rule. The host has
--- no low rule and no high rule."
+-- no low rule and no high rule.": of A, and of the host alone with two paths
 abbrev pub rules : List Rejection
 rules =
     missing A (Setup 3) (Setup 2)
@@ -223,6 +223,8 @@ rules =
     ∷ missing A (Low 3) (Low 2)
     ∷ missing A (High 0) (High 1)
     ∷ missing A (High 3) (High 2)
+    ∷ missing (hostAlone (pos 0) ((pos 0, pos 0, pos 0, pos 5) ∷ (pos 0, pos 0, pos 0, pos 5) ∷ [])) (Setup 2) (Setup 1)
+    ∷ missing (hostAlone (pos 0) ((pos 0, pos 0, pos 0, pos 5) ∷ (pos 0, pos 0, pos 0, pos 5) ∷ [])) (Low 1) (Hold 1)
     ∷ []
 
 -- RULES 7.9: "The first entry is the arrow that leaves the lowest-numbered register of the loop.": of two loops it is not. RULES 4.1: "A *loop*

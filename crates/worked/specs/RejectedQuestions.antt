@@ -61,8 +61,8 @@ numbers =
     ∷ bound (asked (pos 9) (pos 3) (pos 3) (pos 0) (pos 0)) (asked (pos 9) (pos 3) (pos 2) (pos 0) (pos 0))
     ∷ []
 
--- RULES 8.4: "these ranges hold for every kind, also where the rule does not read the number": the period of hold, low and high, the latency
--- at the tail of low, that at the head of high
+-- RULES 8.4: "these ranges hold for every kind, also where the rule does not read the number": an end of the period of hold, of low and of
+-- high, the latency at the tail of low, that at the head of high
 abbrev pub unread : List QuestionRejection
 unread =
     bound (asked (pos 0) (pos 1) (pos 0) (pos 0) (pos 0)) (asked (pos 1) (pos 1) (pos 0) (pos 0) (pos 0))
@@ -74,7 +74,7 @@ unread =
     ∷ bound (asked (pos 9) (pos 3) (pos 1) (pos 0) (pos 1000001)) (asked (pos 9) (pos 3) (pos 1) (pos 0) (pos 1000000))
     ∷ []
 
--- RULES 8.4: "The period need not lie between floor and ceiling.": A's ceiling is 100. RULES 8.7: "A latency of the host other than 0 is no
+-- RULES 8.4: "The period need not lie between floor and ceiling.": it is above A's ceiling, 100. RULES 8.7: "A latency of the host other than 0 is no
 -- ground to refuse.": the host is the tail of setup 0, of hold 2 and of low 1, and the head of setup 2, of hold 0 and of high 1
 abbrev pub unbounded : List QuestionRejection
 unbounded =
