@@ -4,21 +4,23 @@
 // that is the same in both lies alike in memory too. The clock is read around a few calls for one network, so that other programs on the
 // machine seldom come between. The builds take turns at each network, and each comes as often as the other after itself, after the other
 // and first. A build's time for a network is that of its fastest turn, and a row of the table adds up its networks. Numbers,
-// places, periods and latencies are compared before anything is timed.
+// places, periods and latencies are compared before anything is timed. So are the answers to rule questions, which have their own table.
 #include <dlfcn.h>
 
 #include <cmath>
 #include <cstdio>
 #include <cstdlib>
 
+#include <skew.h>
+#include "inquiry.hpp"
 #include "stack.hpp"
-#include "turns.hpp"
 
 namespace {
 
 struct Build {
     Schedule schedule;
-    size_t stack = 0; // the most that a call used
+    Question question;
+    size_t stack = 0; // the most that scheduling used
 };
 
 struct Times {
@@ -38,16 +40,17 @@ struct Sum {
     }
 };
 
-size_t networks = 0, alike = 0;
+size_t networks = 0, alike = 0, questions = 0;
 
 Build loaded(const char *path) {
     void *library = dlopen(path, RTLD_NOW | RTLD_LOCAL);
-    void *found = library ? dlsym(library, "skew_schedule") : nullptr;
-    if (!found) {
+    void *schedule = library ? dlsym(library, "skew_schedule") : nullptr;
+    void *question = schedule ? dlsym(library, "skew_question") : nullptr;
+    if (!question) {
         std::printf("%s: %s\n", path, dlerror());
         std::exit(1);
     }
-    return {reinterpret_cast<Schedule>(found)};
+    return {reinterpret_cast<Schedule>(schedule), reinterpret_cast<Question>(question)};
 }
 
 void check(Build &base, Build &other, const Set &set) {
@@ -65,22 +68,53 @@ void check(Build &base, Build &other, const Set &set) {
     }
 }
 
-// Calls for one network that take 20 microseconds or more.
-int calls_for(const Build &build, const File &file) { return std::max(1, int(0.00002 / turn(build.schedule, {file}, 1)) + 1); }
+// A build from before the slack answers a question by a yes or no: for a rule that is met exactly it returns the top bit, which is its yes,
+// where one that tells the slack returns 0.
+bool tells_slack(const Build &build, const File &file) {
+    return ask(build.question, file, {1, 2, 1, 0, number_at(file.data(), kHeader + kRecord + 10)}) == 0;
+}
+
+bool says_yes(uint64_t result, bool slack) { return slack ? skew_yes(result) : result >> 63; }
+
+// Answers of two builds that tell the slack, or that do not, must be the same integer, and so must refusals. Of a slack and a yes or no the
+// yes is compared.
+void check(const Build &base, const Build &other, const Inquiry &about, bool slack, bool other_slack) {
+    for (const Asked &asked : about.asked) {
+        const uint64_t result = ask(base.question, about.file, asked), other_result = ask(other.question, about.file, asked);
+        const bool comparable = slack == other_slack || skew_number(result) != 0 || skew_number(other_result) != 0;
+        if (comparable ? result != other_result : says_yes(result, slack) != says_yes(other_result, other_slack)) {
+            std::printf("rule %d %d: the builds' answers differ (%016llx and %016llx)\n", asked.kind, asked.number,
+                static_cast<unsigned long long>(result), static_cast<unsigned long long>(other_result));
+            std::exit(1);
+        }
+        ++questions;
+    }
+}
+
+// What a build does with a network: it schedules it, or answers the questions about it. A turn is in seconds for one call.
+double turn_of(const Build &build, const std::vector<File> &files, int repeats) { return turn(build.schedule, files, repeats); }
+double turn_of(const Build &build, const std::vector<Inquiry> &inquiries, int repeats) { return turn(build.question, inquiries, repeats); }
+double calls_in(const File &) { return 1; }
+double calls_in(const Inquiry &about) { return double(about.asked.size()); }
+
+// Repeats for one network that take 20 microseconds or more.
+template <class Work> int repeats_of(const Build &build, const Work &work) {
+    return std::max(1, int(0.00002 / (turn_of(build, std::vector<Work>{work}, 1) * calls_in(work))) + 1);
+}
 
 // Four turns at each network, as ABBA and the next time as BAAB, until the seconds are over, at the least four times.
-Times measure(const Build &base, const Build &other, const Set &set, double seconds) {
-    std::vector<Times> each(set.files.size());
-    std::vector<std::vector<File>> alone;
-    std::vector<int> calls;
-    for (const File &file : set.files) alone.push_back({file}), calls.push_back(calls_for(base, file));
+template <class Work> Times measure(const Build &base, const Build &other, const std::vector<Work> &works, double seconds) {
+    std::vector<Times> each(works.size());
+    std::vector<std::vector<Work>> alone;
+    std::vector<int> repeats;
+    for (const Work &work : works) alone.push_back({work}), repeats.push_back(repeats_of(base, work));
     const double start = now();
     for (int t = 0; t < 4 || t % 2 || now() - start < seconds; ++t)
         for (size_t k = 0; k < alone.size(); ++k)
             for (const bool outer : {true, false, false, true}) {
                 const bool is_base = outer == (t % 2 == 0);
                 double &best = is_base ? each[k].base : each[k].other;
-                best = std::min(best, 1e9 * turn((is_base ? base : other).schedule, alone[k], calls[k]));
+                best = std::min(best, 1e9 * turn_of(is_base ? base : other, alone[k], repeats[k]));
             }
     Times sum{0, 0};
     for (const Times &times : each) sum.base += times.base, sum.other += times.other;
@@ -90,6 +124,29 @@ Times measure(const Build &base, const Build &other, const Set &set, double seco
 void print_sum(const std::string &what, const Sum &sum) {
     std::printf("total %-9s %11.0f %11.0f %7.3f   mean %5.3f, from %5.3f to %5.3f\n", what.c_str(), sum.total.base, sum.total.other,
         sum.total.ratio(), std::exp(sum.logs / sum.count), sum.least, sum.most);
+}
+
+void print_row(const Set &set, const Times &times) {
+    std::printf("%-9s %5d %5d %11.0f %11.0f %7.3f\n", set.shape.c_str(), set.n, set.m, times.base, times.other, times.ratio());
+    std::fflush(stdout);
+}
+
+void print_questions(const Build &base, const Build &other, const std::vector<Set> &sets, double seconds) {
+    const bool slack = tells_slack(base, sets[0].files[0]), other_slack = tells_slack(other, sets[0].files[0]);
+    std::printf("\nthe rule question; nanoseconds for one%s\n",
+        slack == other_slack ? "" : ". One build tells the slack and the other a yes or no: the yes is compared");
+    Sum sum;
+    for (const Set &set : sets) {
+        if (!asked_of(set)) continue;
+        const std::vector<Inquiry> inquiries = inquiries_of(set);
+        for (const Inquiry &about : inquiries) check(base, other, about, slack, other_slack);
+        for (const Inquiry &about : to_be_refused(set.files[0])) check(base, other, about, slack, other_slack);
+        const Times times = measure(base, other, inquiries, seconds);
+        print_row(set, times);
+        sum.add(times);
+    }
+    print_sum("questions", sum);
+    std::printf("%zu questions, all answered alike\n", questions);
 }
 
 } // namespace
@@ -110,9 +167,8 @@ int main(int count, char **words) {
     Sum generated, all;
     for (const Set &set : sets) {
         check(base, other, set);
-        const Times times = measure(base, other, set, seconds);
-        std::printf("%-9s %5d %5d %11.0f %11.0f %7.3f\n", set.shape.c_str(), set.n, set.m, times.base, times.other, times.ratio());
-        std::fflush(stdout);
+        const Times times = measure(base, other, set.files, seconds);
+        print_row(set, times);
         sums[size_t(std::find(names.begin(), names.end(), set.shape) - names.begin())].add(times);
         if (set.shape != "real") generated.add(times);
         all.add(times);
@@ -122,6 +178,7 @@ int main(int count, char **words) {
         if (sums[k].count) print_sum(names[k], sums[k]);
     print_sum("generated", generated);
     print_sum("of all", all);
+    print_questions(base, other, sets, seconds);
     std::printf("\n%zu networks; on %zu both outputs are the same byte for byte. Stack: %zu and %zu bytes\n", networks, alike, base.stack,
         other.stack);
 }

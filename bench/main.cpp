@@ -8,6 +8,7 @@
 
 #include <skew.h>
 #include "plain.hpp"
+#include "question.hpp"
 #include "rivals.hpp"
 #include "stack.hpp"
 #include "turns.hpp"
@@ -168,6 +169,7 @@ int main(int count, char **words) {
     print_totals(cells, "of all");
     print_growth();
     print_paths(seed);
+    print_questions(sets);
     std::printf("\n%zu networks, %zu of them answered; on %zu the plain program's output is the module's byte for byte\n", networks,
         answered, alike);
 }

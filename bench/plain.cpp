@@ -204,6 +204,23 @@ uint64_t climb(Memory &g, int32_t floor, int32_t ceiling, uint8_t *out) {
     }
 }
 
+bool askable(const uint8_t *file, int32_t period, int32_t kind, int32_t number, int32_t tail, int32_t head) {
+    if (!within(1, 10000000, period) || !within(-1000000, 1000000, tail) || !within(-1000000, 1000000, head)) return false;
+    if (kind == 0 || kind == 1) return within(0, number_at(file, 6) - 1, number);
+    return (kind == 2 || kind == 3) && within(1, number_at(file, 2) - 1, number);
+}
+
+int32_t slack(const uint8_t *file, int32_t period, int32_t kind, int32_t number, int32_t tail, int32_t head) {
+    const size_t own = kHeader + kRecord * size_t(number);
+    if (kind == 2) return head - number_at(file, own + 10);
+    if (kind == 3) return number_at(file, own + 14) - tail;
+    const size_t path = own + kRecord * size_t(number_at(file, 2));
+    const size_t receiver = kHeader + kRecord * size_t(number_at(file, path + 6));
+    const int32_t u = number_at(file, 18);
+    return kind == 0 ? head + period - (tail + number_at(file, path + 14) + number_at(file, receiver + 2) + u)
+                     : head + number_at(file, path + 10) - (tail + number_at(file, receiver + 6) + u);
+}
+
 } // namespace
 
 uint64_t plain_schedule(const uint8_t *file, size_t size, uint8_t *out, size_t room) {
@@ -222,4 +239,11 @@ uint64_t plain_schedule(const uint8_t *file, size_t size, uint8_t *out, size_t r
     if (g.passed == 0) first_row(g, g.row, g.preds);
     else std::memcpy(g.row, free.row, g.n * sizeof *g.row), std::memcpy(g.preds, g.pred, g.n * sizeof *g.preds);
     return climb(g, number_at(file, 10), number_at(file, 14), out);
+}
+
+uint64_t plain_question(const uint8_t *file, size_t size, int32_t period, int32_t kind, int32_t number, int32_t tail, int32_t head) {
+    const uint64_t fault = refused(file, size, SIZE_MAX);
+    if (fault) return fault;
+    if (!askable(file, period, kind, number, tail, head)) return refusal(10);
+    return uint64_t(uint32_t(slack(file, period, kind, number, tail, head))) << 32;
 }

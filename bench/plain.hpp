@@ -13,3 +13,4 @@ struct Counts {
 extern Counts counts; // of all calls since it was last cleared
 
 uint64_t plain_schedule(const uint8_t *file, size_t size, uint8_t *out, size_t room);
+uint64_t plain_question(const uint8_t *file, size_t size, int32_t period, int32_t kind, int32_t number, int32_t tail, int32_t head);

@@ -1,4 +1,4 @@
-//! Schedules a network that stands in memory and asks one question about the answer.
+//! Schedules a network that stands in memory, and asks by how much the answer meets the rules of the loop that is shown with it.
 
 use std::process::ExitCode;
 
@@ -19,35 +19,38 @@ mod skew {
         }
     }
 
-    /// A refusal: its number, and the place of the record that is at fault.
-    pub struct Refused {
-        pub number: u32,
-        pub place: u32,
-    }
-
     pub const SETUP: i32 = 0;
+    pub const HOLD: i32 = 1;
+    pub const LOW: i32 = 2;
 
-    /// The number stands in the low 32 bits, the place in the 31 above these, a question's yes in the top one.
-    fn unpack(result: u64) -> Result<bool, Refused> {
-        let number = (result & 0xffff_ffff) as u32;
-        let place = (result >> 32 & 0x7fff_ffff) as u32;
-        if number == 0 {
-            Ok(result >> 63 == 1)
-        } else {
-            Err(Refused { number, place })
+    /// What a call returns: the number in the low 32 bits. Those above are shared. After a refusal they are its place, after a question's
+    /// number 0 its slack in two's complement.
+    #[derive(Clone, Copy)]
+    pub struct Returned(u64);
+
+    impl Returned {
+        pub fn number(self) -> u32 {
+            self.0 as u32
+        }
+
+        pub fn place(self) -> u32 {
+            if self.number() == 0 { 0 } else { (self.0 >> 32) as u32 }
+        }
+
+        /// The slack that a question was answered with. A refusal has none.
+        pub fn slack(self) -> Option<i32> {
+            (self.number() == 0).then_some((self.0 >> 32) as i32)
         }
     }
 
-    pub fn schedule(file: &[u8], out: &mut [u8]) -> Result<(), Refused> {
+    pub fn schedule(file: &[u8], out: &mut [u8]) -> Returned {
         // A slice's pointer is never null, and a shared and a mutable slice do not overlap: that is all the function asks.
-        let result = unsafe { linked::skew_schedule(file.as_ptr(), file.len(), out.as_mut_ptr(), out.len()) };
-        unpack(result).map(|_| ())
+        Returned(unsafe { linked::skew_schedule(file.as_ptr(), file.len(), out.as_mut_ptr(), out.len()) })
     }
 
-    /// Whether the rule of this kind and number is met at this period by the latencies at its arrow's tail and head.
-    pub fn question(file: &[u8], period: i32, rule: (i32, i32), tail: i32, head: i32) -> Result<bool, Refused> {
-        let (kind, number) = rule;
-        unpack(unsafe { linked::skew_question(file.as_ptr(), file.len(), period, kind, number, tail, head) })
+    /// The slack of the rule of this kind and number, at this period, with these latencies at its arrow's tail and head.
+    pub fn question(file: &[u8], period: i32, (kind, number): (i32, i32), tail: i32, head: i32) -> Returned {
+        Returned(unsafe { linked::skew_question(file.as_ptr(), file.len(), period, kind, number, tail, head) })
     }
 }
 
@@ -74,41 +77,83 @@ fn network_a() -> Vec<u8> {
     file
 }
 
-fn print_answer(out: &[u8]) {
-    let kinds = ["setup", "hold", "low", "high"];
-    let period = get_number(out, 2);
-    let latencies = get_number(out, 6) as usize;
-    let entries = get_number(out, 10) as usize;
-    println!("period {period}");
-    for i in 0..latencies {
-        println!("latency {i} {}", get_number(out, 14 + 6 * i + 2));
+/// An answer, read out of the bytes that `skew::schedule` left.
+struct Answer {
+    period: i32,
+    latencies: Vec<i32>,
+    rules: Vec<(i32, i32)>, // of the loop: kind and number
+}
+
+fn answer(file: &[u8]) -> Result<Answer, skew::Returned> {
+    let mut out = [0; 14 + 16 * 3];
+    let result = skew::schedule(file, &mut out);
+    if result.number() != 0 {
+        return Err(result);
     }
-    if entries > 0 {
-        println!("loop {}", period - 1);
+    let latencies = get_number(&out, 6) as usize;
+    let entries = get_number(&out, 10) as usize;
+    let entry = |j| 14 + 6 * latencies + 10 * j;
+    Ok(Answer {
+        period: get_number(&out, 2),
+        latencies: (0..latencies).map(|i| get_number(&out, 14 + 6 * i + 2)).collect(),
+        rules: (0..entries).map(|j| (get_number(&out, entry(j) + 2), get_number(&out, entry(j) + 6))).collect(),
+    })
+}
+
+fn print_answer(answer: &Answer) {
+    println!("period {}", answer.period);
+    for (i, latency) in answer.latencies.iter().enumerate() {
+        println!("latency {i} {latency}");
     }
-    for at in (0..entries).map(|j| 14 + 6 * latencies + 10 * j) {
-        println!("{} {}", kinds[get_number(out, at + 2) as usize], get_number(out, at + 6));
+    if !answer.rules.is_empty() {
+        println!("loop {}", answer.period - 1);
     }
 }
 
-/// Prints the answer, then whether path 0 meets its setup rule at two periods. It runs from register 0 to register 1, whose latencies are
-/// 0 and 1 in the answer.
-fn show(file: &[u8]) -> Result<(), skew::Refused> {
-    let mut out = [0; 14 + 16 * 3];
-    skew::schedule(file, &mut out)?;
-    print_answer(&out);
-    for period in [9, 8] {
-        let met = skew::question(file, period, (skew::SETUP, 0), 0, 1)?;
-        println!("setup 0 at {period}: {}", if met { "yes" } else { "no" });
+/// The registers at the tail and the head of a rule's arrow. For setup and hold the file says them: the path's sender and receiver.
+fn ends(file: &[u8], registers: usize, (kind, number): (i32, i32)) -> (usize, usize) {
+    let path = 22 + 18 * (registers + number as usize);
+    let path_end = |offset| get_number(file, path + offset) as usize;
+    match kind {
+        skew::SETUP => (path_end(2), path_end(6)),
+        skew::HOLD => (path_end(6), path_end(2)),
+        skew::LOW => (0, number as usize),
+        _ => (number as usize, 0),
     }
+}
+
+/// The slack of each rule of the loop, and their sum. At the answer's period the sum is at least 0 and less than the number of setup rules.
+/// Each of these loses 1 at the period before, so there the sum is below 0, with any latencies: some rule is always broken.
+fn print_slacks(file: &[u8], answer: &Answer, period: i32) -> Result<(), skew::Returned> {
+    let mut sum = 0;
+    for &rule in &answer.rules {
+        let (tail, head) = ends(file, answer.latencies.len(), rule);
+        let reply = skew::question(file, period, rule, answer.latencies[tail], answer.latencies[head]);
+        let slack = reply.slack().ok_or(reply)?;
+        let (kind, number) = (["setup", "hold", "low", "high"][rule.0 as usize], rule.1);
+        println!("{kind} {number} at {period}: slack {slack}, {}", if slack >= 0 { "yes" } else { "no" });
+        sum += slack;
+    }
+    let setups = answer.rules.iter().filter(|rule| rule.0 == skew::SETUP).count();
+    println!("sum at {period}: {sum}, setup rules: {setups}");
     Ok(())
+}
+
+fn show(file: &[u8]) -> Result<(), skew::Returned> {
+    let answer = answer(file)?;
+    print_answer(&answer);
+    if answer.rules.is_empty() {
+        return Ok(());
+    }
+    print_slacks(file, &answer, answer.period)?;
+    print_slacks(file, &answer, answer.period - 1)
 }
 
 fn main() -> ExitCode {
     match show(&network_a()) {
         Ok(()) => ExitCode::SUCCESS,
         Err(refused) => {
-            println!("refused {} {}", refused.number, refused.place);
+            println!("refused {} {}", refused.number(), refused.place());
             ExitCode::FAILURE
         }
     }

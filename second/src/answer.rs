@@ -12,12 +12,11 @@ pub fn answer(request: &Request, slip: Option<Slip>) -> Answer {
     match request {
         Request::Solve { room, file } => solved(file, *room, slip),
         Request::Question { question, file } => {
-            let (number, place, yes) = match wrong::reply(file, question, slip) {
-                Reply::Yes => (0, 0, 1),
-                Reply::No => (0, 0, 0),
-                Reply::Refused(refusal) => (refusal.number, refusal.place, 0),
+            let (number, place, slack) = match wrong::reply(file, question, slip) {
+                Reply::Slack(slack) => (0, 0, Some(i32::try_from(slack).expect("a slack fits into four bytes"))),
+                Reply::Refused(refusal) => (refusal.number, refusal.place, None),
             };
-            Answer::Replied { number, place, yes }
+            Answer::Replied { number, place, slack }
         }
     }
 }

@@ -56,18 +56,29 @@ pub fn judge_solve(file: &[u8], before: &[u8], number: i32, place: i32, after: &
     Expected::of(file, before.len()).judge(before, number, place, after).map(|_| ())
 }
 
-/// Judges one answer of the second public function; `yes` is 1, 0, or 0 for a refusal.
-pub fn judge_question(file: &[u8], question: &Question, number: i32, place: i32, yes: i32) -> Result<(), String> {
+/// Judges one answer of the second public function. The slack is due to the picosecond, and after a refusal there
+/// must be none.
+pub fn judge_question(
+    file: &[u8],
+    question: &Question,
+    number: i32,
+    place: i32,
+    slack: Option<i32>,
+) -> Result<(), String> {
     let due = match question::reply(file, question) {
-        Reply::Yes => (0, 0, 1),
-        Reply::No => (0, 0, 0),
-        Reply::Refused(refusal) => (refusal.number, refusal.place, 0),
+        Reply::Slack(slack) => (0, 0, Some(slack)),
+        Reply::Refused(refusal) => (refusal.number, refusal.place, None),
     };
-    if (number, place, yes) == due {
+    let found = (number, place, slack.map(i64::from));
+    if found == due {
         return Ok(());
     }
-    let (n, p, y) = due;
-    Err(format!("number {number} place {place} yes {yes}, but number {n} place {p} yes {y} is due"))
+    Err(format!("{}, but {} is due", replied(found), replied(due)))
+}
+
+fn replied((number, place, slack): (i32, i32, Option<i64>)) -> String {
+    let slack = slack.map_or("no slack".to_string(), |slack| format!("slack {slack}"));
+    format!("number {number} place {place} {slack}")
 }
 
 fn judge_written(network: &Network, verdict: &Verdict, before: &[u8], after: &[u8]) -> Result<Vec<Rule>, String> {

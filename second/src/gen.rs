@@ -1,6 +1,7 @@
 //! Seeded streams of requests, by shape. The same seed, count and shape give the same bytes.
 
 pub mod damaged;
+pub mod ends;
 pub mod limits;
 pub mod maximal;
 pub mod planned;
@@ -31,8 +32,8 @@ const NETWORKS: [(&str, NetworkMaker); 13] = [
     ("corner", maximal::corner),
 ];
 
-/// The other shapes: all of the greatest networks, three that are not about networks, and the mix.
-const OTHERS: [&str; 5] = ["maximal", "damaged", "rooms", "questions", "mix"];
+/// The other shapes: all of the greatest networks, four that are not about networks, and the mix.
+const OTHERS: [&str; 6] = ["maximal", "damaged", "rooms", "questions", "ends", "mix"];
 
 /// Where the greatest networks begin in `NETWORKS`.
 const FIRST_MAXIMAL: usize = 2;
@@ -72,6 +73,7 @@ impl Source {
             "damaged" => self.damaged(),
             "rooms" => rooms::odd(&mut self.rng),
             "questions" => self.question(),
+            "ends" => ends::request(&mut self.rng),
             _ => self.mixed(),
         }
     }
@@ -109,6 +111,7 @@ impl Source {
         let draft = match self.rng.between(1, 200) {
             1 => maximal::extreme(&mut self.rng),
             2..=20 => planned::medium(&mut self.rng),
+            21..=50 => return ends::request(&mut self.rng),
             _ => tiny::network(&mut self.rng),
         };
         let question = questions::about(&mut self.rng, &draft);

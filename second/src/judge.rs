@@ -6,7 +6,7 @@ use std::io::{self, ErrorKind, Read};
 use crate::answer::answer;
 use crate::check::{judge_question, Expected};
 use crate::gen::Source;
-use crate::paper::Rule;
+use crate::paper::{Kind, Rule};
 use crate::wire::{fresh_buffer, Answer, Request};
 use crate::wrong::Slip;
 
@@ -55,6 +55,7 @@ impl Tally {
             Ok(rules) => {
                 let kinds: std::collections::BTreeSet<_> = rules.iter().map(|rule| rule.kind).collect();
                 kinds.iter().for_each(|kind| self.count(format!("loop with {}", kind.name())));
+                end_reached(request, answer).into_iter().for_each(|end| self.count(end));
             }
             Err(fault) => {
                 self.wrong += 1;
@@ -75,9 +76,29 @@ fn outcome(answer: &Answer) -> String {
             format!("solved 0, {}", if at_floor { "no loop" } else { "with a loop" })
         }
         Answer::Solved { number, .. } => format!("solved {number}"),
-        Answer::Replied { number: 0, yes, .. } => format!("question {}", if *yes == 0 { "no" } else { "yes" }),
+        Answer::Replied { slack: Some(slack), .. } => format!("slack {}", side(*slack)),
         Answer::Replied { number, .. } => format!("question {number}"),
     }
+}
+
+fn side(slack: i32) -> &'static str {
+    match slack.signum() {
+        -1 => "below 0",
+        0 => "of 0",
+        _ => "above 0",
+    }
+}
+
+/// The end of what its rule can reach (RULES 15.6) that a slack found right stands at, if it does.
+fn end_reached(request: &Request, answer: &Answer) -> Option<String> {
+    let (Request::Question { question, .. }, Answer::Replied { slack, .. }) = (request, answer) else {
+        return None;
+    };
+    let (slack, kind) = (i64::from((*slack)?), Kind::numbered(question.kind)?);
+    let (smallest, greatest) = kind.slack_ends();
+    let ends = [("smallest", smallest), ("greatest", greatest)];
+    let (end, _) = ends.into_iter().find(|(_, end)| *end == slack)?;
+    Some(format!("slack of {}, the {end}", kind.name()))
 }
 
 /// The request in words, its file in hexadecimal where that is short enough to read.
@@ -143,8 +164,8 @@ impl Judge<'_> {
             (Judge::Solve(expected, before), Answer::Solved { number, place, buffer }) => {
                 expected.judge(before, *number, *place, buffer)
             }
-            (Judge::Question(Request::Question { question, file }), Answer::Replied { number, place, yes }) => {
-                judge_question(file, question, *number, *place, *yes).map(|()| Vec::new())
+            (Judge::Question(Request::Question { question, file }), Answer::Replied { number, place, slack }) => {
+                judge_question(file, question, *number, *place, *slack).map(|()| Vec::new())
             }
             _ => Err("the answer is not of the request's sort".to_string()),
         }
@@ -181,6 +202,6 @@ pub fn try_programs(mut source: Source, count: usize) -> Vec<(Option<Slip>, Caug
 pub fn as_it_should_be(slip: Option<Slip>, caught: Caught) -> bool {
     match slip {
         None => caught == Caught::default(),
-        Some(slip) => caught.solves > 0 && (caught.questions > 0) == slip.touches_questions(),
+        Some(slip) => (caught.solves > 0, caught.questions > 0) == (slip.touches_solves(), slip.touches_questions()),
     }
 }

@@ -23,4 +23,5 @@ pub mod solver;
 pub mod verdict;
 pub mod wire;
 pub mod witness;
+pub mod worked;
 pub mod wrong;

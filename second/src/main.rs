@@ -9,6 +9,7 @@ use second::gen::{shapes, Source};
 use second::judge::{as_it_should_be, judge, try_programs};
 use second::listing::listing;
 use second::wire::{Request, ROOM_MOST};
+use second::worked;
 use second::wrong::Slip;
 
 fn main() -> ExitCode {
@@ -28,6 +29,7 @@ fn main() -> ExitCode {
 fn run(words: &[&str]) -> io::Result<bool> {
     match words {
         ["solve"] => solve(),
+        ["ask", "worked"] => ask_worked(),
         ["ask", "files", files @ ..] => ask_files(files),
         ["ask", seed, count] => ask(number(seed)?, number(count)?, "mix"),
         ["ask", seed, count, shape] => ask(number(seed)?, number(count)?, shape),
@@ -43,7 +45,7 @@ fn usage() -> Error {
     let slips = Slip::ALL.map(Slip::name).join(" ");
     let text = format!(
         "usage:\n  second solve < FILE\n  second ask SEED COUNT [SHAPE] > REQUESTS\n  \
-         second ask files FILE.. > REQUESTS\n  second judge REQUESTS ANSWERS\n  \
+         second ask files FILE.. > REQUESTS\n  second ask worked > REQUESTS\n  second judge REQUESTS ANSWERS\n  \
          second answer < REQUESTS > ANSWERS\n  second wrong NAME < REQUESTS > ANSWERS\n  second wrongs SEED COUNT\n\
          shapes: {}\nnames: {slips}",
         shapes().join(" ")
@@ -77,6 +79,16 @@ fn ask_files(files: &[&str]) -> io::Result<bool> {
     let mut out = BufWriter::new(io::stdout().lock());
     for name in files {
         Request::Solve { room: ROOM_MOST, file: std::fs::read(name)? }.write(&mut out)?;
+    }
+    out.flush()?;
+    Ok(true)
+}
+
+/// What the paper works by hand, the same on every run.
+fn ask_worked() -> io::Result<bool> {
+    let mut out = BufWriter::new(io::stdout().lock());
+    for request in worked::requests() {
+        request.write(&mut out)?;
     }
     out.flush()?;
     Ok(true)

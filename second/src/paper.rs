@@ -64,6 +64,19 @@ impl Kind {
             Kind::High => "high",
         }
     }
+
+    pub fn numbered(number: i32) -> Option<Kind> {
+        Kind::ALL.into_iter().find(|kind| kind.number() == number)
+    }
+
+    /// The smallest and the greatest slack that a file and a question can reach (RULES 15.6).
+    pub fn slack_ends(self) -> (i64, i64) {
+        match self {
+            Kind::Setup => (-3_109_999, 12_100_000),
+            Kind::Hold => (-2_110_000, 3_100_000),
+            Kind::Low | Kind::High => (-2_000_000, 2_000_000),
+        }
+    }
 }
 
 /// A rule by kind and number: the path's number for setup and hold, the register's for low and high.
@@ -76,7 +89,7 @@ pub struct Rule {
 impl Network {
     /// The rule of that kind and number, if the network has it. The host has neither low nor high.
     pub fn rule(&self, kind: i32, number: i32) -> Option<Rule> {
-        let kind = *Kind::ALL.iter().find(|k| k.number() == kind)?;
+        let kind = Kind::numbered(kind)?;
         let number = usize::try_from(number).ok()?;
         let exists = match kind {
             Kind::Setup | Kind::Hold => number < self.paths.len(),
@@ -127,22 +140,28 @@ impl Network {
         }
     }
 
-    /// The rule's inequality (RULES 8.5), with the latencies named by where they stand on the arrow.
-    /// Low and high do not read the host's latency, so they are not the arrow form with 0 put in by the caller.
-    pub fn is_met(&self, rule: Rule, period: i64, at_tail: i64, at_head: i64) -> bool {
+    /// One side of the rule's inequality less the other (RULES 15.2), with the latencies named by where they stand on
+    /// the arrow. Low and high do not read the host's latency, so they are not the arrow form with 0 put in by the
+    /// caller.
+    pub fn slack(&self, rule: Rule, period: i64, at_tail: i64, at_head: i64) -> i64 {
         let u = self.uncertainty;
         match rule.kind {
             Kind::Setup => {
                 let path = &self.paths[rule.number];
-                at_tail + path.dmax + self.registers[path.to].setup + u <= at_head + period
+                (at_head + period) - (at_tail + path.dmax + self.registers[path.to].setup + u)
             }
             Kind::Hold => {
                 // The arrow runs against the path: the receiver stands at its tail, the sender at its head.
                 let path = &self.paths[rule.number];
-                at_head + path.dmin >= at_tail + self.registers[path.to].hold + u
+                (at_head + path.dmin) - (at_tail + self.registers[path.to].hold + u)
             }
-            Kind::Low => at_head >= self.registers[rule.number].low,
-            Kind::High => at_tail <= self.registers[rule.number].high,
+            Kind::Low => at_head - self.registers[rule.number].low,
+            Kind::High => self.registers[rule.number].high - at_tail,
         }
+    }
+
+    /// Both sides equal is a slack of 0, which meets the rule.
+    pub fn is_met(&self, rule: Rule, period: i64, at_tail: i64, at_head: i64) -> bool {
+        self.slack(rule, period, at_tail, at_head) >= 0
     }
 }

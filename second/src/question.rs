@@ -1,4 +1,4 @@
-//! The rule question (RULES 8.1): is the named rule met by these latencies?
+//! The rule question (RULES 8.1, 15.1): how much room do these latencies leave the named rule?
 
 use crate::file;
 use crate::paper::{LATENCY_MOST, PERIOD_MOST};
@@ -12,11 +12,10 @@ pub struct Question {
     pub at_head: i32,
 }
 
-/// The answer to a question; a refusal carries neither yes nor no.
+/// The answer to a question. A slack of at least 0 is yes and one below 0 is no; a refusal carries none.
 #[derive(Clone, Copy, Debug, PartialEq, Eq)]
 pub enum Reply {
-    Yes,
-    No,
+    Slack(i64),
     Refused(file::Refusal),
 }
 
@@ -29,8 +28,7 @@ pub fn reply(file: &[u8], question: &Question) -> Reply {
     let in_range =
         (1..=PERIOD_MOST).contains(&period) && at_tail.abs() <= LATENCY_MOST && at_head.abs() <= LATENCY_MOST;
     match network.rule(question.kind, question.number) {
-        Some(rule) if in_range && network.is_met(rule, period, at_tail, at_head) => Reply::Yes,
-        Some(_) if in_range => Reply::No,
+        Some(rule) if in_range => Reply::Slack(network.slack(rule, period, at_tail, at_head)),
         _ => Reply::Refused(file::Refusal::whole_file(10)),
     }
 }

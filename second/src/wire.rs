@@ -13,10 +13,11 @@ pub enum Request {
     Question { question: Question, file: Vec<u8> },
 }
 
+/// A question's slack travels behind number 0 alone: behind a refusal nothing follows.
 #[derive(Clone, Debug, PartialEq, Eq)]
 pub enum Answer {
     Solved { number: i32, place: i32, buffer: Vec<u8> },
-    Replied { number: i32, place: i32, yes: i32 },
+    Replied { number: i32, place: i32, slack: Option<i32> },
 }
 
 /// The buffer as it stands before each solving: no two neighbours alike, so a stray write shows.
@@ -78,8 +79,9 @@ impl Request {
                 Ok(Answer::Solved { number, place, buffer })
             }
             Request::Question { .. } => {
-                let [number, place, yes] = numbers(input)?;
-                Ok(Answer::Replied { number, place, yes })
+                let [number, place] = numbers(input)?;
+                let slack = if number == 0 { Some(numbers::<1>(input)?[0]) } else { None };
+                Ok(Answer::Replied { number, place, slack })
             }
         }
     }
@@ -92,7 +94,10 @@ impl Answer {
                 put_numbers(out, &[*number, *place])?;
                 out.write_all(buffer)
             }
-            Answer::Replied { number, place, yes } => put_numbers(out, &[*number, *place, *yes]),
+            Answer::Replied { number, place, slack } => {
+                put_numbers(out, &[*number, *place])?;
+                slack.iter().try_for_each(|slack| put_numbers(out, &[*slack]))
+            }
         }
     }
 }

@@ -1,4 +1,5 @@
-//! The easy errors of this trade (RULES 12.1), one program each. A judge that does not catch them is no judge.
+//! The easy errors of this trade (RULES 12.1) and of the slack (RULES 15.10), one program each. A judge that does not
+//! catch them is no judge.
 //!
 //! All of them, and the right program beside them, use the fast solver, while the judge uses the plain one wherever
 //! that is quick enough: so a clean run of the right program is also a comparison of the two solvers.
@@ -8,23 +9,47 @@ use std::collections::{HashMap, HashSet};
 use crate::arrows::{Arrow, Problem};
 use crate::fast;
 use crate::file;
-use crate::paper::{Kind, Network};
+use crate::paper::{Kind, Network, Path, Register, Rule};
 use crate::question::{self, Question, Reply};
 use crate::verdict::Verdict;
 
 #[derive(Clone, Copy, Debug, PartialEq, Eq)]
 pub enum Slip {
+    /// In both tables: the period is put into the hold rule.
     HoldPeriod,
     RoundDown,
     Shifted,
     WorstPath,
     SetupOnly,
     Strict,
+    HoldTurned,
+    CutOff,
+    OneOff,
+    LowTail,
+    UncertaintySign,
+    DelaysExchanged,
+    SenderCharged,
+    TimesExchanged,
 }
 
 impl Slip {
-    pub const ALL: [Slip; 6] =
-        [Slip::HoldPeriod, Slip::RoundDown, Slip::Shifted, Slip::WorstPath, Slip::SetupOnly, Slip::Strict];
+    /// The errors of RULES 12.1 first, then those of RULES 15.10 that are not among them.
+    pub const ALL: [Slip; 14] = [
+        Slip::HoldPeriod,
+        Slip::RoundDown,
+        Slip::Shifted,
+        Slip::WorstPath,
+        Slip::SetupOnly,
+        Slip::Strict,
+        Slip::HoldTurned,
+        Slip::CutOff,
+        Slip::OneOff,
+        Slip::LowTail,
+        Slip::UncertaintySign,
+        Slip::DelaysExchanged,
+        Slip::SenderCharged,
+        Slip::TimesExchanged,
+    ];
 
     pub fn name(self) -> &'static str {
         match self {
@@ -34,6 +59,14 @@ impl Slip {
             Slip::WorstPath => "worst-path",
             Slip::SetupOnly => "setup-only",
             Slip::Strict => "strict",
+            Slip::HoldTurned => "hold-turned",
+            Slip::CutOff => "cut-off",
+            Slip::OneOff => "one-off",
+            Slip::LowTail => "low-tail",
+            Slip::UncertaintySign => "u-sign",
+            Slip::DelaysExchanged => "delays-exchanged",
+            Slip::SenderCharged => "sender-charged",
+            Slip::TimesExchanged => "times-exchanged",
         }
     }
 
@@ -41,47 +74,72 @@ impl Slip {
         Slip::ALL.into_iter().find(|slip| slip.name() == name)
     }
 
-    /// Whether the error also gives wrong answers to the rule question.
+    /// Whether the error is one of RULES 12.1, which give wrong schedules. The others are in the question's sum alone.
+    pub fn touches_solves(self) -> bool {
+        use Slip::*;
+        matches!(self, HoldPeriod | RoundDown | Shifted | WorstPath | SetupOnly | Strict)
+    }
+
+    /// Whether the error gives wrong answers to the rule question.
     pub fn touches_questions(self) -> bool {
-        matches!(self, Slip::HoldPeriod | Slip::Strict)
+        !matches!(self, Slip::RoundDown | Slip::Shifted | Slip::WorstPath | Slip::SetupOnly)
     }
 }
 
 pub fn verdict(network: &Network, slip: Option<Slip>) -> Verdict {
     let right = Problem::of(network);
     match slip {
-        None => fast::solve(&right),
         Some(Slip::HoldPeriod) => fast::solve(&changed(&right, with_period_in_hold)),
         Some(Slip::Strict) => fast::solve(&changed(&right, made_strict)),
         Some(Slip::WorstPath) => fast::solve(&worst_paths_only(network, right)),
         Some(Slip::SetupOnly) => without_holds(right),
         Some(Slip::RoundDown) => rounded_down(right),
         Some(Slip::Shifted) => moved_up(fast::solve(&right)),
+        _ => fast::solve(&right),
     }
 }
 
 pub fn reply(file: &[u8], question: &Question, slip: Option<Slip>) -> Reply {
     let right = question::reply(file, question);
-    let slip = slip.filter(|slip| slip.touches_questions());
-    let (Some(slip), Reply::Yes | Reply::No) = (slip, right) else {
+    let (Some(slip), Reply::Slack(slack)) = (slip, right) else {
         return right;
     };
-    let network = file::read(file).expect("a question answered yes or no is about an accepted file");
-    let rule = network.rule(question.kind, question.number).expect("a question answered yes or no names a rule");
-    if !matches!(rule.kind, Kind::Setup | Kind::Hold) {
-        return right;
-    }
+    let network = file::read(file).expect("a question with a slack is about an accepted file");
+    let rule = network.rule(question.kind, question.number).expect("a question with a slack names a rule");
+    Reply::Slack(misjudged(&network, rule, question, slip, slack))
+}
+
+/// The slack as the error has it.
+fn misjudged(network: &Network, rule: Rule, question: &Question, slip: Slip, right: i64) -> i64 {
     let [period, at_tail, at_head] = [question.period, question.at_tail, question.at_head].map(i64::from);
-    let amount = match (slip, rule.kind) {
-        (Slip::HoldPeriod, Kind::Hold) => network.amount(rule, period) - period,
-        (Slip::Strict, _) => network.amount(rule, period) + 1,
-        _ => network.amount(rule, period),
-    };
-    if at_head >= at_tail + amount {
-        Reply::Yes
-    } else {
-        Reply::No
+    let slack_in = |other: Network| other.slack(rule, period, at_tail, at_head);
+    match (slip, rule.kind) {
+        (Slip::HoldPeriod, Kind::Hold) => right + period,
+        (Slip::Strict, Kind::Setup | Kind::Hold) => right - 1,
+        (Slip::HoldTurned, Kind::Hold) => -right,
+        (Slip::CutOff, _) => right.max(0),
+        (Slip::OneOff, _) => right - 1,
+        (Slip::LowTail, Kind::Low) => network.slack(rule, period, at_tail, at_tail),
+        (Slip::UncertaintySign, _) => slack_in(Network { uncertainty: -network.uncertainty, ..network.clone() }),
+        (Slip::DelaysExchanged, _) => {
+            slack_in(with_paths(network, |path| Path { dmin: path.dmax, dmax: path.dmin, ..*path }))
+        }
+        // The latencies come with the question, so the path's ends decide only whose margins are charged.
+        (Slip::SenderCharged, _) => {
+            slack_in(with_paths(network, |path| Path { from: path.to, to: path.from, ..*path }))
+        }
+        (Slip::TimesExchanged, _) => slack_in(with_times_exchanged(network)),
+        _ => right,
     }
+}
+
+fn with_times_exchanged(network: &Network) -> Network {
+    let turned = |register: &Register| Register { setup: register.hold, hold: register.setup, ..*register };
+    Network { registers: network.registers.iter().map(turned).collect(), ..network.clone() }
+}
+
+fn with_paths(network: &Network, change: fn(&Path) -> Path) -> Network {
+    Network { paths: network.paths.iter().map(change).collect(), ..network.clone() }
 }
 
 fn changed(right: &Problem, change: fn(Arrow) -> Arrow) -> Problem {

@@ -1,12 +1,9 @@
 //! The question about a single rule.
 
-mod support;
-
-use second::check::judge_question;
 use second::draft::Draft;
 use second::file::Refusal;
 use second::question::{reply, Question, Reply};
-use support::worked_cases;
+use second::worked::worked_cases;
 
 fn ask(period: i32, kind: i32, number: i32, at_tail: i32, at_head: i32) -> Question {
     Question { period, kind, number, at_tail, at_head }
@@ -38,17 +35,17 @@ fn each_kind_is_met_at_equality_and_broken_one_beyond() {
         (ask(1, 3, 2, 10, -1_000_000), ask(1, 3, 2, 11, 1_000_000)),
     ];
     for (met, broken) in pairs {
-        assert_eq!(reply(&network_a(), &met), Reply::Yes, "{met:?}");
-        assert_eq!(reply(&network_a(), &broken), Reply::No, "{broken:?}");
+        assert_eq!(reply(&network_a(), &met), Reply::Slack(0), "{met:?}");
+        assert_eq!(reply(&network_a(), &broken), Reply::Slack(-1), "{broken:?}");
     }
 }
 
 #[test]
 fn a_host_latency_other_than_0_is_used_by_setup_and_hold() {
-    assert_eq!(reply(&network_a(), &ask(9, 0, 0, 5, 6)), Reply::Yes);
-    assert_eq!(reply(&network_a(), &ask(9, 0, 0, 5, 5)), Reply::No);
-    assert_eq!(reply(&network_a(), &ask(9, 1, 0, 5, 4)), Reply::Yes);
-    assert_eq!(reply(&network_a(), &ask(9, 1, 0, 5, 3)), Reply::No);
+    assert_eq!(reply(&network_a(), &ask(9, 0, 0, 5, 6)), Reply::Slack(0));
+    assert_eq!(reply(&network_a(), &ask(9, 0, 0, 5, 5)), Reply::Slack(-1));
+    assert_eq!(reply(&network_a(), &ask(9, 1, 0, 5, 4)), Reply::Slack(0));
+    assert_eq!(reply(&network_a(), &ask(9, 1, 0, 5, 3)), Reply::Slack(-1));
 }
 
 /// One register, hold 1, a path to itself with delays 3 and 5.
@@ -56,11 +53,11 @@ fn a_host_latency_other_than_0_is_used_by_setup_and_hold() {
 fn on_a_self_path_differing_latencies_are_taken_as_given() {
     let registers = vec![[0, 1, 0, 0]];
     let file = Draft { floor: 1, ceiling: 9, uncertainty: 0, registers, paths: vec![[0, 0, 3, 5]] }.file();
-    assert_eq!(reply(&file, &ask(5, 0, 0, 0, 0)), Reply::Yes);
-    assert_eq!(reply(&file, &ask(5, 0, 0, 1, 0)), Reply::No);
-    assert_eq!(reply(&file, &ask(4, 0, 0, 0, 1)), Reply::Yes);
-    assert_eq!(reply(&file, &ask(1, 1, 0, 2, 0)), Reply::Yes);
-    assert_eq!(reply(&file, &ask(1, 1, 0, 3, 0)), Reply::No);
+    assert_eq!(reply(&file, &ask(5, 0, 0, 0, 0)), Reply::Slack(0));
+    assert_eq!(reply(&file, &ask(5, 0, 0, 1, 0)), Reply::Slack(-1));
+    assert_eq!(reply(&file, &ask(4, 0, 0, 0, 1)), Reply::Slack(0));
+    assert_eq!(reply(&file, &ask(1, 1, 0, 2, 0)), Reply::Slack(0));
+    assert_eq!(reply(&file, &ask(1, 1, 0, 3, 0)), Reply::Slack(-1));
 }
 
 #[test]
@@ -68,7 +65,7 @@ fn what_is_out_of_range_is_refused_with_10_for_every_kind() {
     let (low, high) = (-1_000_000, 1_000_000);
     for kind in 0..=3 {
         let sound = ask(10_000_000, kind, 1, high, low);
-        assert!(matches!(reply(&network_a(), &sound), Reply::Yes | Reply::No), "{sound:?}");
+        assert!(matches!(reply(&network_a(), &sound), Reply::Slack(_)), "{sound:?}");
         let periods = [0, -1, 10_000_001, i32::MIN, i32::MAX].map(|period| Question { period, ..sound });
         let tails = [low - 1, high + 1, i32::MIN, i32::MAX].map(|at_tail| Question { at_tail, ..sound });
         let heads = [low - 1, high + 1, i32::MIN, i32::MAX].map(|at_head| Question { at_head, ..sound });
@@ -92,16 +89,4 @@ fn the_files_own_refusal_comes_first() {
     let due = Reply::Refused(Refusal { number: 6, place: 2 });
     assert_eq!(reply(&file, &ask(0, 9, 9, 0, 0)), due);
     assert_eq!(reply(&[], &ask(0, 9, 9, 0, 0)), refused(1));
-}
-
-#[test]
-fn the_judge_wants_number_place_and_yes_all_right() {
-    let met = ask(9, 0, 0, 0, 1);
-    assert_eq!(judge_question(&network_a(), &met, 0, 0, 1), Ok(()));
-    for (number, place, yes) in [(0, 0, 0), (0, 0, 2), (0, 0, -1), (10, 0, 1), (10, 0, 0), (0, 1, 1)] {
-        assert!(judge_question(&network_a(), &met, number, place, yes).is_err(), "{number} {place} {yes}");
-    }
-    let none = ask(0, 0, 0, 0, 1);
-    assert_eq!(judge_question(&network_a(), &none, 10, 0, 0), Ok(()));
-    assert!(judge_question(&network_a(), &none, 10, 0, 1).is_err());
 }

@@ -10,7 +10,8 @@ use second::judge::{as_it_should_be, judge, try_programs, Judge};
 use second::paper::{Kind, Network, Rule};
 use second::verdict::Verdict;
 use second::wire::{fresh_buffer, Answer, Request};
-use support::{accepted, all_loops, loops_allowed, output, rules_of, sum_at, tiny_networks, worked_cases};
+use second::worked::worked_cases;
+use support::{accepted, all_loops, loops_allowed, output, rules_of, sum_at, tiny_networks};
 
 /// An answered or refused network with the parts of its right output.
 struct Sample {
@@ -70,10 +71,13 @@ fn the_judge_accepts_what_the_right_program_answers() {
     let tally = judge(&mut &requests[..], &mut &answers[..]).unwrap();
     assert_eq!((tally.judged, tally.wrong, tally.broken), (4_000, 0, None), "{:?}", tally.faults);
     let numbers = (1..=9).map(|number| format!("solved {number}"));
-    let questions = ["1", "2", "3", "4", "5", "6", "10", "yes", "no"].map(|word| format!("question {word}"));
+    let questions = [1, 2, 3, 4, 5, 6, 10].map(|number| format!("question {number}"));
+    let slacks = ["slack below 0", "slack of 0", "slack above 0"].map(String::from);
+    let ends = Kind::ALL.map(|kind| ["smallest", "greatest"].map(|end| format!("slack of {}, the {end}", kind.name())));
     let kinds = Kind::ALL.map(|kind| format!("loop with {}", kind.name()));
     let answered = ["solved 0, no loop", "solved 0, with a loop"].map(String::from);
-    for what in numbers.chain(questions).chain(kinds).chain(answered) {
+    let reached = slacks.into_iter().chain(ends.concat());
+    for what in numbers.chain(questions).chain(kinds).chain(answered).chain(reached) {
         assert!(tally.seen.contains_key(&what), "the mix never shows: {what}");
     }
 }
@@ -206,13 +210,13 @@ fn every_other_number_or_place_is_refused() {
         let judge = Judge::of(&request);
         let right = answer(&request, None);
         assert_eq!(judge.judge(&right).map(|_| ()), Ok(()));
-        for (by_number, by_place, by_yes) in [(1, 0, 0), (-1, 0, 0), (0, 1, 0), (0, -1, 0), (1, 1, 0), (0, 0, 1)] {
+        for (by_number, by_place) in [(1, 0), (-1, 0), (0, 1), (0, -1), (1, 1)] {
             let changed = match right.clone() {
                 Answer::Solved { number, place, buffer } => {
-                    Answer::Solved { number: number + by_number, place: place + by_place + by_yes, buffer }
+                    Answer::Solved { number: number + by_number, place: place + by_place, buffer }
                 }
-                Answer::Replied { number, place, yes } => {
-                    Answer::Replied { number: number + by_number, place: place + by_place, yes: yes ^ by_yes }
+                Answer::Replied { number, place, slack } => {
+                    Answer::Replied { number: number + by_number, place: place + by_place, slack }
                 }
             };
             assert!(judge.judge(&changed).is_err(), "{changed:?} for {request:?}");

@@ -8,7 +8,8 @@ use std::process::{Command, Stdio};
 
 use second::listing::listed;
 use second::verdict::Verdict;
-use support::{accepted, loops_allowed, worked_cases, Case};
+use second::worked::{worked_cases, Case};
+use support::{accepted, loops_allowed};
 
 /// What the listing program writes; `tools/run` builds it where it is missing.
 fn skewlist(input: &[u8]) -> String {

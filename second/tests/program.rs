@@ -1,14 +1,12 @@
 //! The program as it is run: its commands, streams and exit codes.
 
-mod support;
-
 use std::io::Write;
 use std::path::PathBuf;
 use std::process::{Command, Output, Stdio};
 
 use second::gen::{shapes, Source};
 use second::wire::{Request, FILE_MOST, ROOM_MOST};
-use support::worked_cases;
+use second::worked::worked_cases;
 
 fn second(words: &[&str], input: &[u8]) -> Output {
     let mut command = Command::new(env!("CARGO_BIN_EXE_second"));
@@ -70,6 +68,13 @@ fn files_are_asked_for_one_after_the_other() {
 }
 
 #[test]
+fn what_the_paper_works_by_hand_is_asked_for_in_one_run() {
+    let requests = second(&["ask", "worked"], b"").stdout;
+    let answers = second(&["answer"], &requests).stdout;
+    assert_eq!(judged("worked", &requests, &answers), (Some(0), "judged 45, wrong 0".to_string()));
+}
+
+#[test]
 fn answers_cut_short_or_too_long_fail() {
     let requests = second(&["ask", "6", "50", "tiny"], b"").stdout;
     let answers = second(&["answer"], &requests).stdout;
@@ -83,12 +88,25 @@ fn answers_cut_short_or_too_long_fail() {
 
 #[test]
 fn every_wrong_program_fails_the_judge() {
-    let requests = second(&["ask", "7", "400", "tiny"], b"").stdout;
-    for name in ["hold-period", "round-down", "shifted", "worst-path", "setup-only", "strict"] {
-        let answers = second(&["wrong", name], &requests).stdout;
-        let (code, last) = judged(name, &requests, &answers);
-        assert_eq!(code, Some(1), "{name}: {last}");
-        assert!(last.starts_with("judged 400, wrong ") && !last.ends_with(" 0"), "{name}: {last}");
+    let of_schedules = ["hold-period", "round-down", "shifted", "worst-path", "setup-only", "strict"];
+    let of_slacks = [
+        "hold-period",
+        "hold-turned",
+        "cut-off",
+        "one-off",
+        "low-tail",
+        "u-sign",
+        "delays-exchanged",
+        "sender-charged",
+    ];
+    for (shape, names) in [("tiny", &of_schedules[..]), ("questions", &of_slacks[..])] {
+        let requests = second(&["ask", "7", "400", shape], b"").stdout;
+        for name in names {
+            let answers = second(&["wrong", name], &requests).stdout;
+            let (code, last) = judged(&format!("{shape}-{name}"), &requests, &answers);
+            assert_eq!(code, Some(1), "{name}: {last}");
+            assert!(last.starts_with("judged 400, wrong ") && !last.ends_with(" 0"), "{name}: {last}");
+        }
     }
 }
 
@@ -97,7 +115,7 @@ fn wrongs_reports_every_program() {
     let output = second(&["wrongs", "8", "2000"], b"");
     let text = String::from_utf8(output.stdout).unwrap();
     assert_eq!(output.status.code(), Some(0), "{text}");
-    assert_eq!(text.lines().filter(|line| line.ends_with(", as it should be")).count(), 7, "{text}");
+    assert_eq!(text.lines().filter(|line| line.ends_with(", as it should be")).count(), 15, "{text}");
     // Without a single request no wrong program can be caught, and that must not pass for success.
     assert_eq!(second(&["wrongs", "8", "0"], b"").status.code(), Some(1));
 }

@@ -1,12 +1,10 @@
 //! Which files are refused, with which number and place.
 
-mod support;
-
 use second::draft::Draft;
 use second::file::{read, Refusal};
 use second::gen::damaged::catalogue;
 use second::rng::Rng;
-use support::worked_cases;
+use second::worked::worked_cases;
 
 fn sound() -> Draft {
     worked_cases().swap_remove(0).draft

@@ -119,7 +119,7 @@ fn confirm(problem: &Problem) {
 }
 
 #[test]
-fn the_arrow_form_and_the_inequality_say_the_same() {
+fn the_arrow_form_and_the_slack_say_the_same() {
     let mut rng = Rng::new(17);
     let mut met = 0;
     for (_, network) in tiny_networks(17, 500, |_| true) {
@@ -127,9 +127,10 @@ fn the_arrow_form_and_the_inequality_say_the_same() {
             let period = i64::from(rng.between(1, 30));
             let mut latency = |register: usize| if register == 0 { 0 } else { i64::from(rng.between(-12, 12)) };
             let (at_tail, at_head) = (latency(network.tail(rule)), latency(network.head(rule)));
-            let by_arrow = at_head >= at_tail + network.amount(rule, period);
-            assert_eq!(network.is_met(rule, period, at_tail, at_head), by_arrow, "{rule:?}");
-            met += u32::from(by_arrow);
+            let by_arrow = at_head - (at_tail + network.amount(rule, period));
+            assert_eq!(network.slack(rule, period, at_tail, at_head), by_arrow, "{rule:?}");
+            assert_eq!(network.is_met(rule, period, at_tail, at_head), by_arrow >= 0, "{rule:?}");
+            met += u32::from(by_arrow >= 0);
         }
     }
     assert!(met > 500, "only {met} rules were met");

@@ -6,7 +6,8 @@ use std::fs;
 use std::path::PathBuf;
 
 use second::wire::{Answer, Request};
-use support::{accepted, loops_allowed, output, worked_cases, Case};
+use second::worked::{worked_cases, Case};
+use support::{accepted, loops_allowed, output};
 
 fn stored(name: &str) -> Vec<u8> {
     let path = PathBuf::from(env!("CARGO_MANIFEST_DIR")).join("../crates/exam").join(name);

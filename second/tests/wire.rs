@@ -1,12 +1,10 @@
 //! The wire's bytes, written out by hand, and the room that decides refusal 7.
 
-mod support;
-
 use second::check::judge_solve;
 use second::draft::Draft;
 use second::question::Question;
 use second::wire::{fresh_buffer, Answer, Request};
-use support::worked_cases;
+use second::worked::worked_cases;
 
 fn written(write: impl Fn(&mut Vec<u8>) -> std::io::Result<()>) -> Vec<u8> {
     let mut bytes = Vec::new();
@@ -31,8 +29,31 @@ fn answers_have_the_wires_bytes_and_read_back() {
     assert_eq!(bytes, [5, 0, 0, 0, 2, 1, 0, 0, 1, 2, 3]);
     let request = Request::Solve { room: 3, file: vec![] };
     assert_eq!(request.read_answer(&mut &bytes[..]).unwrap(), solved);
-    let replied = Answer::Replied { number: 0, place: 0, yes: 1 };
-    assert_eq!(written(|out| replied.write(out)), [0, 0, 0, 0, 0, 0, 0, 0, 1, 0, 0, 0]);
+}
+
+/// The slack follows number 0, and nothing follows a refusal: what comes next in the stream is the next answer's.
+#[test]
+fn a_question_is_answered_with_a_slack_or_refused_without() {
+    let question = Question { period: 1, kind: 2, number: 3, at_tail: -1, at_head: 256 };
+    let request = Request::Question { question, file: vec![] };
+    let answers = [
+        (Answer::Replied { number: 0, place: 0, slack: Some(1) }, vec![0, 0, 0, 0, 0, 0, 0, 0, 1, 0, 0, 0]),
+        (Answer::Replied { number: 0, place: 0, slack: Some(-2) }, vec![0, 0, 0, 0, 0, 0, 0, 0, 254, 255, 255, 255]),
+        (
+            Answer::Replied { number: 0, place: 0, slack: Some(-3_109_999) },
+            vec![0, 0, 0, 0, 0, 0, 0, 0, 145, 139, 208, 255],
+        ),
+        (Answer::Replied { number: 6, place: 258, slack: None }, vec![6, 0, 0, 0, 2, 1, 0, 0]),
+    ];
+    for (answer, bytes) in answers {
+        assert_eq!(written(|out| answer.write(out)), bytes, "{answer:?}");
+        let followed = [&bytes[..], &[7, 7, 7, 7]].concat();
+        let mut rest = &followed[..];
+        assert_eq!(request.read_answer(&mut rest).unwrap(), answer);
+        assert_eq!(rest, [7, 7, 7, 7], "{answer:?}");
+        let short = &bytes[..bytes.len() - 1];
+        assert!(request.read_answer(&mut &short[..]).is_err(), "{answer:?} cut short");
+    }
 }
 
 #[test]

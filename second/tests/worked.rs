@@ -8,8 +8,9 @@ use second::check::judge_solve;
 use second::listing::listing;
 use second::verdict::Verdict;
 use second::wire::{fresh_buffer, Answer, Request};
+use second::worked::{worked_cases, Case};
 use second::{fast, solver};
-use support::{accepted, loops_allowed, output, rules_of, worked_cases, Case};
+use support::{accepted, loops_allowed, output, rules_of};
 
 fn expected(case: &Case, verdict: &Verdict) -> bool {
     match verdict {

@@ -2,7 +2,7 @@
 // writes an answer to each, until the input ends. All numbers have four bytes, two's complement, low byte first.
 //
 //   S room length file                            -> number place, then the `room` bytes of the output
-//   Q period kind number tail head length file    -> number place, then 1 for yes and 0 for anything else
+//   Q period kind number tail head length file    -> number place, then the slack where the number is 0
 //
 // It holds a file of FILE_ROOM bytes and an output of OUT_ROOM. Of a longer file only that much is read and answered, and what follows is
 // taken for the next request; of a longer room only that much is written. Either way requests and answers are out of step from there on, so
@@ -84,11 +84,15 @@ fn schedule(file: &mut [u8], out: &mut [u8]) -> bool {
     report(number, place) && put(out)
 }
 
-fn said(r: Reply) -> i32 {
+// RULES 15.5: "A refusal carries no slack."
+fn put_slack(r: Reply) -> bool {
     match r {
-        Reply::Yes => 1,
-        Reply::No => 0,
-        Reply::Refused(_) => 0,
+        Reply::Slack(s) => {
+            let mut last = [0u8; 4];
+            whole::put_number(&mut last, 0, s.0);
+            put(&last)
+        }
+        Reply::Refused(_) => true,
     }
 }
 
@@ -104,11 +108,9 @@ fn ask(file: &mut [u8], head: &[u8; 24]) -> bool {
         whole::number(head, 12),
         whole::number(head, 16),
     );
-    let mut last = [0u8; 4];
-    whole::put_number(&mut last, 0, said(r));
     let number = number_of(paper::codes::reply_number(r));
     let place = place_of(paper::codes::reply_place(r));
-    report(number, place) && put(&last)
+    report(number, place) && put_slack(r)
 }
 
 fn serve_schedule(file: &mut [u8], out: &mut [u8]) -> bool {

@@ -16,6 +16,7 @@ use Rattle.paper.specs.declared.Refusal.{Refusal}
 use Rattle.paper.specs.declared.Refusal.the-variants.{File, Question}
 use Rattle.paper.specs.declared.Outcome.{Outcome}
 use Rattle.paper.specs.declared.Outcome.the-variants as outcome
+use Rattle.paper.specs.declared.Delay.{Delay}
 use Rattle.paper.specs.declared.Reply.{Reply}
 use Rattle.paper.specs.declared.Reply.the-variants as reply
 use Rattle.paper.specs.Network.{Network}
@@ -170,23 +171,18 @@ module _ (N : Network) (q : asking.Question) where
       let n = b .of-number in
       rule-named r s (omega lin) (omega lin)
 
-  clash : asking.Says N q reply.Yes → asking.Says N q reply.No → ⊥
-  clash (r, a, m) (s, b, k) = k (rw (asked-one s r b a) m)
+  -- so two slacks that answer it are one
+  one-slack : (d e : Delay) → asking.Says N q (reply.Slack d) → asking.Says N q (reply.Slack e) → reply.Slack d ≡ reply.Slack e
+  one-slack d e (r, a, k) (s, b, l) = ap asking.withSlack (k ∙ sym (rw (asked-one r s a b) l))
 
-  -- RULES 8.6: "A yes and a no have number 0 and place 0 alike.": these two the rule tells apart, and any other reply is known from its
-  -- number and place
+  -- a slack is known from the rule that is asked for, a refusal from its number and place, which no slack has
   said-one : (a b : Reply) → replyNumber a ≡ replyNumber b → replyPlace a ≡ replyPlace b → asking.Says N q a → asking.Says N q b → a ≡ b
-  said-one reply.Yes reply.Yes n p s t = refl
-  said-one reply.Yes reply.No n p s t = absurd (clash s t)
-  said-one reply.Yes (reply.Refused y) n p s t = absurd (refusal-apart y 0 (λ p. refl) n)
-  said-one reply.No reply.Yes n p s t = absurd (clash t s)
-  said-one reply.No reply.No n p s t = refl
-  said-one reply.No (reply.Refused y) n p s t = absurd (refusal-apart y 0 (λ p. refl) n)
-  said-one (reply.Refused x) reply.Yes n p s t = absurd (refusal-apart x 0 (λ p. refl) (sym n))
-  said-one (reply.Refused x) reply.No n p s t = absurd (refusal-apart x 0 (λ p. refl) (sym n))
+  said-one (reply.Slack d) (reply.Slack e) n p s t = one-slack d e s t
+  said-one (reply.Slack d) (reply.Refused y) n p s t = absurd (refusal-apart y 0 (λ p. refl) n)
+  said-one (reply.Refused x) (reply.Slack e) n p s t = absurd (refusal-apart x 0 (λ p. refl) (sym n))
   said-one (reply.Refused x) (reply.Refused y) n p s t = ap reply.Refused (refusal-known x y n p)
 
--- RULES 8.5: "the answer is yes exactly when the inequality of the rule holds": no two replies answer one question
+-- RULES 15.1: "A rule question that is not refused answers one whole number": no two replies answer one question
 pub reply-one : {N : Network} {rows : List Row} {q : asking.Question} {a b : Reply} → OnePlaces rows
     → asking.Answers N rows q a → asking.Answers N rows q b → a ≡ b
 reply-one {N} {rows} {q} {a} {b} one h k =

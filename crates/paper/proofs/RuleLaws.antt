@@ -7,7 +7,7 @@ use lib.IntN.{ℤ, pos, negℤ, _+ℤ_, _-ℤ_}
 use lib.Signed.{_≤ℤ_}
 use Rattle.whole.proofs.Lin.{lin, plus, minus, negs}
 use Rattle.paper.specs.Network.{Network}
-use Rattle.paper.specs.Rules.{Rule, Setup, Hold, Low, High, Holds, HoldsAs, Met, tail, head, base, amount, slack}
+use Rattle.paper.specs.Rules.{Rule, Setup, Hold, Low, High, Holds, HoldsAs, _≥ℤ_, tail, head, base, amount, slack}
 use Rattle.paper.specs.Schedule.{Schedule}
 
 -- a difference is at least 0 exactly when what is taken away is at most what it is taken from
@@ -58,7 +58,7 @@ module _ (N : Network) where
 
   -- RULES 8.5: "the answer is yes exactly when the inequality of the rule holds, and else no": a rule's slack is at least 0 exactly when its
   -- inequality holds, with whatever latencies at its two ends
-  pub met-is-written : (P : ℕ) (r : Rule) (a b : ℤ) → Met N P r a b ↔ HoldsAs N P r a b
+  pub met-is-written : (P : ℕ) (r : Rule) (a b : ℤ) → (slack N P r a b ≥ℤ pos 0) ↔ HoldsAs N P r a b
   met-is-written P (Setup p) a b = difference _ _
   met-is-written P (Hold p) a b = difference _ _
   met-is-written P (Low i) a b = difference _ _
@@ -73,7 +73,7 @@ module _ (N : Network) where
   written-is-rule P x (High i) = refl
 
   -- so a rule is met by a row's latencies at its two ends exactly when the third column holds
-  pub met-is-rule : (P : ℕ) (x : ℕ → ℤ) (r : Rule) → Met N P r (x (tail N r)) (x (head N r)) ↔ Holds N P x r
+  pub met-is-rule : (P : ℕ) (x : ℕ → ℤ) (r : Rule) → (slack N P r (x (tail N r)) (x (head N r)) ≥ℤ pos 0) ↔ Holds N P x r
   met-is-rule P x r = rw (← (written-is-rule P x r)) (met-is-written P r (x (tail N r)) (x (head N r)))
 
   -- RULES 2.3: "Every rule is an arrow with an amount: the latency at the arrow's head .. is at least the latency at its tail .. plus the amount."

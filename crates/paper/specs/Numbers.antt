@@ -59,13 +59,11 @@ outcomePlace outcome.Room = 0
 outcomePlace outcome.NoPeriod = 0
 outcomePlace outcome.NoneToCeiling = 0
 
--- RULES 8.6: "A yes and a no have number 0 and place 0 alike."
+-- RULES 15.5: "An answered question has number 0, place 0 and a slack."
 abbrev pub replyNumber : Reply → ℕ
-replyNumber reply.Yes = 0
-replyNumber reply.No = 0
+replyNumber (reply.Slack d) = 0
 replyNumber (reply.Refused x) = refusalNumber x
 
 abbrev pub replyPlace : Reply → ℕ
-replyPlace reply.Yes = 0
-replyPlace reply.No = 0
+replyPlace (reply.Slack d) = 0
 replyPlace (reply.Refused x) = refusalPlace x

@@ -1,7 +1,7 @@
 -- The rule question.
 --
 -- RULES 8.1: "The question names a file, a period, a rule by its kind and number, and two latencies: that at the tail of the rule's arrow and
--- that at its head. It answers whether the rule is met."
+-- that at its head. It answers by how much the rule is met (15.1), and so whether it is."
 -- RULES 8.2: "A file that is not accepted is refused first, with 1 to 6 and the places of 6.2."
 -- RULES 8.7: "A latency of the host other than 0 is no ground to refuse. Setup and hold rules take it as it is given. Low and high rules do
 -- not read it"
@@ -11,10 +11,11 @@ use mathlib.Core.List.{List, [], _∷_, _++_}
 use mathlib.Core.Bool.{true}
 use Prim.Native.Nat.{ℕ}
 use lib.IntN.{ℤ, pos}
+use lib.Signed.{_<ℤ_}
 use Rattle.paper.specs.declared.Reply.{Reply}
 use Rattle.paper.specs.declared.Reply.the-variants as reply
 use Rattle.paper.specs.Network.{Network}
-use Rattle.paper.specs.Rules.{Rule, kind, number, Exists, Met}
+use Rattle.paper.specs.Rules.{Rule, kind, number, Exists, _≥ℤ_, slack}
 use Rattle.paper.specs.File.{natural, within, networkOf}
 use Rattle.paper.specs.Table.{Row, When, Given}
 use Rattle.paper.specs.Refusals.{faults}
@@ -47,8 +48,9 @@ module _ (N : Network) (q : Question) where
     pub head-within : within leastLatency mostLatency (q .head-latency) ≡ true
     pub rule : (r : Rule) × Asked r
 
-  abbrev pub MetAsked : Rule → Type 0
-  MetAsked r = Met N (natural (q .period)) r (q .tail-latency) (q .head-latency)
+  -- the slack of a rule, by the period and the latencies that are given
+  abbrev pub slackAsked : Rule → ℤ
+  slackAsked r = slack N (natural (q .period)) r (q .tail-latency) (q .head-latency)
 
 -- RULES 8.3: "Then the question is refused with 10 when the period is outside 1 to 10,000,000, or one of the latencies is outside -1,000,000
 -- to 1,000,000, or the network has no such rule"
@@ -59,11 +61,10 @@ questionRows N q = record { number = 10; applies = When (InRange N q → ⊥) } 
 abbrev pub questionRefusals : List ℕ → Question → List Row
 questionRefusals f q = faults f ++ questionRows (networkOf f) q
 
--- RULES 8.5: "Otherwise the answer is yes exactly when the inequality of the rule holds, and else no."
--- RULES 8.6: "A refusal is neither."
+-- RULES 15.1: "A rule question that is not refused answers one whole number of picoseconds, the slack of the rule that is asked for."
+-- RULES 15.5: "A refusal carries no slack."
 abbrev pub Says : Network → Question → Reply → Type 0
-Says N q reply.Yes = (r : Rule) × Asked N q r × MetAsked N q r
-Says N q reply.No = (r : Rule) × Asked N q r × (MetAsked N q r → ⊥)
+Says N q (reply.Slack d) = (r : Rule) × Asked N q r × (d .0 ≡ slackAsked N q r)
 Says N q (reply.Refused x) = Unit {0}
 
 -- The rule question, given the network N, with these rows for its table of numbers, may return o.
@@ -74,3 +75,16 @@ pub record Answers (N : Network) (rows : List Row) (q : Question) (o : Reply) : 
 -- a file's: its network, and its refusals
 abbrev pub FileAnswers : List ℕ → Question → Reply → Type 0
 FileAnswers f q o = Answers (networkOf f) (questionRefusals f q) q o
+
+-- the reply that tells the slack z
+abbrev pub withSlack : ℤ → Reply
+withSlack z = reply.Slack (record { 0 = z })
+
+-- RULES 15.4: "Yes is a slack of at least 0, and no is a slack below 0." RULES 8.6: "A refusal is neither."
+abbrev pub Yes : Reply → Type 0
+Yes (reply.Slack d) = d .0 ≥ℤ pos 0
+Yes (reply.Refused x) = ⊥
+
+abbrev pub No : Reply → Type 0
+No (reply.Slack d) = d .0 <ℤ pos 0
+No (reply.Refused x) = ⊥

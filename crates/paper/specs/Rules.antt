@@ -91,13 +91,19 @@ module _ (N : Network) where
   amount P (Low i) = base (Low i)
   amount P (High i) = base (High i)
 
-  -- By how much the rule is met, with latency a at the arrow's tail and b at its head: the side of the inequality that has to be the greater
-  -- less the other, so below 0 where it is not met. Low and high do not read the host's latency.
+  -- By how much the rule is met, with t at the arrow's tail and v at its head.
+  --
+  -- RULES 15.2:
+  -- | setup | (v + P) - (t + dmax + s_j + u) |
+  -- | hold  | (v + dmin) - (t + h_j + u)     |
+  -- | low   | v - low_i                      |
+  -- | high  | high_i - t                     |
   abbrev pub slack : ℕ → Rule → ℤ → ℤ → ℤ
-  slack P (Setup p) a b = (b +ℤ pos P) -ℤ (a +ℤ N .dmax p +ℤ N .setup (N .to p) +ℤ N .uncertainty p)
-  slack P (Hold p) a b = (b +ℤ N .dmin p) -ℤ (a +ℤ N .hold (N .to p) +ℤ N .uncertainty p)
-  slack P (Low i) a b = b -ℤ N .low i
-  slack P (High i) a b = N .high i -ℤ a
+  slack P (Setup p) t v = (v +ℤ pos P) -ℤ (t +ℤ N .dmax p +ℤ N .setup (N .to p) +ℤ N .uncertainty p)
+  slack P (Hold p) t v = (v +ℤ N .dmin p) -ℤ (t +ℤ N .hold (N .to p) +ℤ N .uncertainty p)
+  slack P (Low i) t v = v -ℤ N .low i
+  slack P (High i) t v = N .high i -ℤ t
 
-  abbrev pub Met : ℕ → Rule → ℤ → ℤ → Type 0
-  Met P r a b = pos 0 ≤ℤ slack P r a b
+  -- the same by the latencies that a row has at the arrow's ends
+  abbrev pub slackBy : ℕ → (ℕ → ℤ) → Rule → ℤ
+  slackBy P x r = slack P r (x (tail r)) (x (head r))

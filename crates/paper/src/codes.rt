@@ -41,7 +41,7 @@ fn refusal_number(x: Refusal) -> u32
     }
 }
 
-fn refusal_place(x: Refusal) -> usize
+pub fn refusal_place(x: Refusal) -> usize
     ensures { λ r. ⌜ r ≡ refusalPlace x ⌝ }
 {
     match x {
@@ -78,8 +78,7 @@ pub fn reply_number(o: Reply) -> u32
     ensures { λ r. ⌜ r ≡ replyNumber o ⌝ }
 {
     match o {
-        Reply::Yes => 0,
-        Reply::No => 0,
+        Reply::Slack(_) => 0,
         Reply::Refused(x) => refusal_number(x),
     }
 }
@@ -88,8 +87,7 @@ pub fn reply_place(o: Reply) -> usize
     ensures { λ r. ⌜ r ≡ replyPlace o ⌝ }
 {
     match o {
-        Reply::Yes => 0,
-        Reply::No => 0,
+        Reply::Slack(_) => 0,
         Reply::Refused(x) => refusal_place(x),
     }
 }

@@ -10,7 +10,7 @@ ghost use mir.Val.{SFits};
 // When a register's clock edge comes, counted from the host's edge, in picoseconds.
 pub struct Latency(pub i32);
 
-// A length of time, in picoseconds: a travel, a setup or hold time, a period, an amount.
+// A length of time, in picoseconds: a travel, a setup or hold time, a period, an amount, a slack.
 pub struct Delay(pub i32);
 
 impl Latency {
@@ -88,9 +88,8 @@ pub enum Outcome {
     NoneToCeiling,
 }
 
-// What the rule question returns: yes and no, both with number 0, or a refusal of what it was given.
+// What the rule question returns: by how much the rule is met, with number 0, or a refusal of what it was given.
 pub enum Reply {
-    Yes,
-    No,
+    Slack(Delay),
     Refused(Refusal),
 }

@@ -1,5 +1,5 @@
 -- The theorems about the two public functions: Unique, Numbers, Demands, ReadBack and WorkedResults of the scheduler, QuestionLaws of the
--- rule question, Joined of both. Calls and Asking say of any network and any refusals before 7 what Numbers, Demands and QuestionLaws say of
+-- rule question, Joined and Slacks of both. Calls and Asking say of any network and any refusals before 7 what Numbers, Demands and QuestionLaws say of
 -- a file. The others serve the proofs of the functions' parts.
 pub mod Limits
 pub mod Named
@@ -12,5 +12,6 @@ pub mod Numbers
 pub mod Demands
 pub mod WorkedResults
 pub mod Joined
+pub mod Slacks
 pub mod ReadBack
 pub mod Results

@@ -13,8 +13,7 @@ use Rattle.paper.specs.Rules.{Rule, Setup, Hold, Low, High, base, amount}
 use Rattle.paper.specs.File.{natural, within, networkOf}
 use Rattle.paper.specs.Question.{Question, asked, Asked}
 use Rattle.paper.proofs.Legal.{Legal, accepted-legal, both, within-is, natural-is}
-use Rattle.paper.proofs.RuleLaws.{tailRead, headRead}
-use Rattle.rules.specs.Amounts.{Small, SmallArrow}
+use Rattle.rules.specs.Amounts.{Small}
 use Rattle.rules.proofs.Ranges.{small-between, small-less}
 use Rattle.rules.proofs.Amounts.{base-small, amount-small}
 use Rattle.skew.specs.Slack.{numbersWithin, Askable}
@@ -89,27 +88,14 @@ module _ {f : List ℕ} {n : ℕ} {q : Question} (p : Askable f n q) where
   legal : Legal (networkOf f)
   legal = accepted-legal f (p .accepted)
 
-  tail-small : (r : Rule) → Small (tailRead r (q .tail-latency))
-  tail-small (Setup i) = small-latency (p .in-range .tail-within)
-  tail-small (Hold i) = small-latency (p .in-range .tail-within)
-  tail-small (Low i) = record { from = omega lin; to = omega lin }
-  tail-small (High i) = small-latency (p .in-range .tail-within)
+  pub tail-small : Small (q .tail-latency)
+  tail-small = small-latency (p .in-range .tail-within)
 
-  head-small : (r : Rule) → Small (headRead r (q .head-latency))
-  head-small (Setup i) = small-latency (p .in-range .head-within)
-  head-small (Hold i) = small-latency (p .in-range .head-within)
-  head-small (Low i) = small-latency (p .in-range .head-within)
-  head-small (High i) = record { from = omega lin; to = omega lin }
+  pub head-small : Small (q .head-latency)
+  head-small = small-latency (p .in-range .head-within)
 
-  -- the rule's amount and the latencies at its arrow's ends are small enough for the slack
-  pub small-arrow : (r : Rule) {d : ℤ} → Asked (networkOf f) q r → d ≡ amount (networkOf f) (natural (q .period)) r
-      → SmallArrow d (tailRead r (q .tail-latency)) (headRead r (q .head-latency))
-  small-arrow r a e =
-      record {
-        of-amount = rw e (amount-small legal (natural (q .period)) r (period-most (q .period) (p .in-range .period-within)) (a .exists));
-        at-tail = tail-small r;
-        at-head = head-small r;
-      }
+  pub amount-is-small : (r : Rule) {d : ℤ} → Asked (networkOf f) q r → d ≡ amount (networkOf f) (natural (q .period)) r → Small d
+  amount-is-small r a e = rw e (amount-small legal (natural (q .period)) r (period-most (q .period) (p .in-range .period-within)) (a .exists))
 
   -- a setup rule's amount at the period fits
   pub period-fits : (i : ℕ) {d : ℤ} → Asked (networkOf f) q (Setup i) → d ≡ base (networkOf f) (Setup i) → SFits w32 (d -ℤ q .period)

@@ -1,12 +1,11 @@
--- What the contract of the rule question says of a file: when each number is given, and that yes is given exactly when the named rule's
--- inequality holds. Each is what `Asking` says of the file's network and of the rows of its faults. Rests on `Asking`.
+-- What the contract of the rule question says of a file: when each number is given, that the slack which is told is the named rule's, and that
+-- it is yes exactly when the rule's inequality holds. Each is what `Asking` says of the file's network and of the rows of its faults. Rests on `Asking`.
 use mathlib.Core.Path.{_≡_, refl}
 use mathlib.Core.Logic.{_↔_, _⊎_}
 use mathlib.Core.List.{List}
 use Prim.Native.Nat.{ℕ, _<_}
 use native.Mathlib.Omega.{arith}
-use lib.IntN.{ℤ, pos, _+ℤ_}
-use lib.Signed.{_≤ℤ_}
+use lib.IntN.{ℤ, pos, _+ℤ_, _-ℤ_}
 use Rattle.whole.proofs.Lin.{lin}
 use Rattle.paper.specs.declared.Fault.{Fault}
 use Rattle.paper.specs.declared.Verdict.the-variants as verdict
@@ -14,35 +13,32 @@ use Rattle.paper.specs.declared.Refusal.the-variants as refusal
 use Rattle.paper.specs.declared.Reply.{Reply}
 use Rattle.paper.specs.declared.Reply.the-variants as reply
 use Rattle.paper.specs.Network.{Network}
-use Rattle.paper.specs.Rules.{Rule, Setup, Hold, Low, High, kind, Holds, HoldsAs, _≥ℤ_, tail, head}
+use Rattle.paper.specs.Rules.{Rule, Setup, Hold, Low, High, kind, Holds, HoldsAs, tail, head}
 use Rattle.paper.specs.File.{natural, networkOf}
 use Rattle.paper.specs.Refusals.{faults, Accepted}
-use Rattle.paper.specs.Question.{Question, asked, Asked, InRange, MetAsked, FileAnswers}
+use Rattle.paper.specs.Question.{Question, asked, Asked, InRange, slackAsked, FileAnswers, withSlack, Yes, No}
 use Rattle.paper.specs.Outcome.{Judged}
 use Rattle.paper.proofs.TableLaws.{faults-one-place, faults-numbered}
 use Rattle.paper.proofs.NumberLaws.{fault-numbers}
 use Rattle.skew.proofs.Asking as asking
 
 module _ (f : List ℕ) (q : Question) (r : Rule) (o : Reply) (accepted : Accepted f) (in-range : InRange (networkOf f) q) (asked-for : Asked (networkOf f) q r) (answers : FileAnswers f q o) where
-  -- RULES 8.5: "the answer is yes exactly when the inequality of the rule holds, and else no": by the rule's slack
-  pub question-yes-iff : (o ≡ reply.Yes) ↔ MetAsked (networkOf f) q r
-  question-yes-iff = asking.yes-iff (faults f) (faults-one-place f) answers accepted in-range r asked-for
+  -- RULES 15.1: "A rule question that is not refused answers .. the slack of the rule that is asked for."
+  pub question-slack : o ≡ withSlack (slackAsked (networkOf f) q r)
+  question-slack = asking.slack-is-told (faults f) (faults-one-place f) answers accepted in-range r asked-for
 
-  pub question-no-iff : (o ≡ reply.No) ↔ (MetAsked (networkOf f) q r → ⊥)
-  question-no-iff = asking.no-iff (faults f) (faults-one-place f) answers accepted in-range r asked-for
-
-  -- and by the inequality as the table of the question has it, with the two latencies as they are given
-  pub question-yes-written : (o ≡ reply.Yes) ↔ HoldsAs (networkOf f) (natural (q .period)) r (q .tail-latency) (q .head-latency)
+  -- RULES 8.5: "the answer is yes exactly when the inequality of the rule holds, and else no", with the two latencies as they are given
+  pub question-yes-written : Yes o ↔ HoldsAs (networkOf f) (natural (q .period)) r (q .tail-latency) (q .head-latency)
   question-yes-written = asking.yes-written (faults f) (faults-one-place f) answers accepted in-range r asked-for
 
-  pub question-no-written : (o ≡ reply.No) ↔ (HoldsAs (networkOf f) (natural (q .period)) r (q .tail-latency) (q .head-latency) → ⊥)
+  pub question-no-written : No o ↔ (HoldsAs (networkOf f) (natural (q .period)) r (q .tail-latency) (q .head-latency) → ⊥)
   question-no-written = asking.no-written (faults f) (faults-one-place f) answers accepted in-range r asked-for
 
   -- and, where the two are latencies of a row x, exactly when the rule of RULES 2.2 holds of the row
   pub question-yes-holds : (x : ℕ → ℤ)
       → q .tail-latency ≡ x (tail (networkOf f) r)
       → q .head-latency ≡ x (head (networkOf f) r)
-      → (o ≡ reply.Yes) ↔ Holds (networkOf f) (natural (q .period)) x r
+      → Yes o ↔ Holds (networkOf f) (natural (q .period)) x r
   question-yes-holds = asking.yes-holds (faults f) (faults-one-place f) answers accepted in-range r asked-for
 
 -- ---- the numbers
@@ -56,9 +52,13 @@ module _ (f : List ℕ) {q : Question} {o : Reply} (answers : FileAnswers f q o)
   pub refused-10-iff : Accepted f → (o ≡ reply.Refused refusal.Question) ↔ (InRange (networkOf f) q → ⊥)
   refused-10-iff = asking.out-iff (faults f) (faults-one-place f) answers
 
-  -- 0 is given exactly when no refusal applies: an accepted file's question in range gets yes or no and nothing else, and nothing else gets them
-  pub question-answered-iff : ((o ≡ reply.Yes) ⊎ (o ≡ reply.No)) ↔ (Accepted f × InRange (networkOf f) q)
+  -- a slack is told exactly when no refusal applies: of an accepted file's question in range, and of no other
+  pub question-answered-iff : ((z : ℤ) × (o ≡ withSlack z)) ↔ (Accepted f × InRange (networkOf f) q)
   question-answered-iff = asking.answered-iff (faults f) (faults-one-place f) answers (faults-numbered f)
+
+  -- and yes or no is said of just these: RULES 8.6: "A refusal is neither."
+  pub question-yes-or-no-iff : (Yes o ⊎ No o) ↔ (Accepted f × InRange (networkOf f) q)
+  question-yes-or-no-iff = asking.yes-or-no-iff (faults f) (faults-one-place f) answers (faults-numbered f)
 
 -- ---- the latencies as they are given
 
@@ -71,15 +71,15 @@ module _ (f : List ℕ) (accepted : Accepted f) (p i : ℕ) (path : p < networkO
 
   -- a at the tail of the setup rule, b at its head
   pub self-setup-as-given : InRange N (asked (pos P) (pos 0) (pos p) a b) → FileAnswers f (asked (pos P) (pos 0) (pos p) a b) o
-      → (o ≡ reply.Yes) ↔ ((a +ℤ N .dmax p +ℤ N .setup i +ℤ N .uncertainty p) ≤ℤ (b +ℤ pos P))
+      → o ≡ withSlack ((b +ℤ pos P) -ℤ (a +ℤ N .dmax p +ℤ N .setup i +ℤ N .uncertainty p))
   self-setup-as-given in-range answers =
-      rw (← reaches) (question-yes-written f _ (Setup p) o accepted in-range (record { of-kind = refl; of-number = refl; exists = path }) answers)
+      rw (← reaches) (question-slack f _ (Setup p) o accepted in-range (record { of-kind = refl; of-number = refl; exists = path }) answers)
 
   -- a at the tail of the hold rule, b at its head
   pub self-hold-as-given : InRange N (asked (pos P) (pos 1) (pos p) a b) → FileAnswers f (asked (pos P) (pos 1) (pos p) a b) o
-      → (o ≡ reply.Yes) ↔ ((b +ℤ N .dmin p) ≥ℤ (a +ℤ N .hold i +ℤ N .uncertainty p))
+      → o ≡ withSlack ((b +ℤ N .dmin p) -ℤ (a +ℤ N .hold i +ℤ N .uncertainty p))
   self-hold-as-given in-range answers =
-      rw (← reaches) (question-yes-written f _ (Hold p) o accepted in-range (record { of-kind = refl; of-number = refl; exists = path }) answers)
+      rw (← reaches) (question-slack f _ (Hold p) o accepted in-range (record { of-kind = refl; of-number = refl; exists = path }) answers)
 
 -- RULES 8.7: "Low and high rules do not read it: it is the latency at the tail of low, and at the head of high.": two questions in range that differ
 -- in the host's latency alone have one reply, whether or not the file is accepted
@@ -95,22 +95,22 @@ module _ (f : List ℕ) (period number : ℤ) where
       → FileAnswers f (low-asked h x) o → FileAnswers f (low-asked h′ x) o′ → o ≡ o′
   host-unread-low h h′ x i i′ =
       asking.same-reply (faults f) (faults-one-place f) i i′
-      (λ r k. (record { of-kind = k .of-kind; of-number = k .of-number; exists = k .exists }, met r (k .of-kind)))
+      (λ r k. (record { of-kind = k .of-kind; of-number = k .of-number; exists = k .exists }, same r (k .of-kind)))
     where
-      met : (r : Rule) → pos 2 ≡ pos (kind r) → MetAsked (networkOf f) (low-asked h x) r ↔ MetAsked (networkOf f) (low-asked h′ x) r
-      met (Setup p) e = absurd (omega lin)
-      met (Hold p) e = absurd (omega lin)
-      met (Low i) e = ((λ m. m), (λ m. m))
-      met (High i) e = absurd (omega lin)
+      same : (r : Rule) → pos 2 ≡ pos (kind r) → slackAsked (networkOf f) (low-asked h x) r ≡ slackAsked (networkOf f) (low-asked h′ x) r
+      same (Setup p) e = absurd (omega lin)
+      same (Hold p) e = absurd (omega lin)
+      same (Low i) e = refl
+      same (High i) e = absurd (omega lin)
 
   pub host-unread-high : (h h′ x : ℤ) {o o′ : Reply} → InRange (networkOf f) (high-asked h x) → InRange (networkOf f) (high-asked h′ x)
       → FileAnswers f (high-asked h x) o → FileAnswers f (high-asked h′ x) o′ → o ≡ o′
   host-unread-high h h′ x i i′ =
       asking.same-reply (faults f) (faults-one-place f) i i′
-      (λ r k. (record { of-kind = k .of-kind; of-number = k .of-number; exists = k .exists }, met r (k .of-kind)))
+      (λ r k. (record { of-kind = k .of-kind; of-number = k .of-number; exists = k .exists }, same r (k .of-kind)))
     where
-      met : (r : Rule) → pos 3 ≡ pos (kind r) → MetAsked (networkOf f) (high-asked h x) r ↔ MetAsked (networkOf f) (high-asked h′ x) r
-      met (Setup p) e = absurd (omega lin)
-      met (Hold p) e = absurd (omega lin)
-      met (Low i) e = absurd (omega lin)
-      met (High i) e = ((λ m. m), (λ m. m))
+      same : (r : Rule) → pos 3 ≡ pos (kind r) → slackAsked (networkOf f) (high-asked h x) r ≡ slackAsked (networkOf f) (high-asked h′ x) r
+      same (Setup p) e = absurd (omega lin)
+      same (Hold p) e = absurd (omega lin)
+      same (Low i) e = absurd (omega lin)
+      same (High i) e = refl

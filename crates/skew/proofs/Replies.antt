@@ -4,21 +4,20 @@ use mathlib.Core.Logic.{inl, inr}
 use mathlib.Core.List.{List, _++_}
 use mathlib.Core.Bool.{Bool, true, false}
 use Prim.Native.Nat.{ℕ}
-use lib.IntN.{ℤ, pos}
-use lib.Signed.{leZ, _≤ℤ_}
-use Rattle.whole.proofs.Lin.{lin, true-not-false}
+use lib.IntN.{ℤ}
+use Rattle.whole.proofs.Lin.{true-not-false}
 use Rattle.paper.specs.declared.Fault.{Fault}
 use Rattle.paper.specs.declared.Verdict.{Verdict}
 use Rattle.paper.specs.declared.Verdict.the-variants as verdict
 use Rattle.paper.specs.declared.Refusal.the-variants as refusal
+use Rattle.paper.specs.declared.Delay.{Delay}
 use Rattle.paper.specs.declared.Reply.{Reply}
 use Rattle.paper.specs.declared.Reply.the-variants as reply
 use Rattle.paper.specs.Network.{Network}
-use Rattle.paper.specs.Rules.{Rule}
 use Rattle.paper.specs.File.{networkOf}
 use Rattle.paper.specs.Table.{Row, Given, Clear}
 use Rattle.paper.specs.Outcome.{Judged}
-use Rattle.paper.specs.Question.{Question, asked, Asked, InRange, MetAsked, questionRows, Answers, FileAnswers}
+use Rattle.paper.specs.Question.{Question, asked, Asked, InRange, questionRows, Answers, FileAnswers}
 use Rattle.paper.proofs.TableLaws.{given-after}
 use Rattle.network.proofs.Verdicts.{judged-faulty}
 use Rattle.skew.specs.Slack.{numbersWithin, TellsRule, IsSlack}
@@ -74,26 +73,6 @@ module _ (N : Network) (t : List Row) (q : Question) (clear : Clear t) where
     pub unrefused : Given (t ++ rows) 0 0
     unrefused = given-after t rows 0 0 clear (inr ((λ p x. x .0 i), (refl, refl)))
 
-    -- yes, where the rule is met
-    pub yes-reply : (r : Rule) → Asked N q r → MetAsked N q r → Allowed reply.Yes
-    yes-reply r k m = record { given = unrefused; says = (r, k, m) }
-
-    -- no, where it is not
-    pub no-reply : (r : Rule) → Asked N q r → (MetAsked N q r → ⊥) → Allowed reply.No
-    no-reply r k m = record { given = unrefused; says = (r, k, m) }
-
-    -- by the slack's sign, of which 0 is met
-    module _ (z : ℤ) (s : IsSlack N q z) where
-      -- from 0 up
-      pub slack-yes : leZ (pos 0) z ≡ true → Allowed reply.Yes
-      slack-yes h =
-          let r = i .rule in
-          let m : pos 0 ≤ℤ z = omega lin in
-          yes-reply (r .0) (r .1) (rw (s (r .0) (r .1)) at m)
-
-      -- below 0
-      pub slack-no : leZ (pos 0) z ≡ false → Allowed reply.No
-      slack-no h =
-          let r = i .rule in
-          let n : pos 0 ≤ℤ z → ⊥ = λ m. omega lin in
-          no-reply (r .0) (r .1) (rw (s (r .0) (r .1)) at n)
+    -- with it, the slack of the rule that is asked for
+    pub slack-reply : (d : Delay) → IsSlack N q (d .0) → Allowed (reply.Slack d)
+    slack-reply d s = let r = i .rule in record { given = unrefused; says = (r .0, r .1, s (r .0) (r .1)) }

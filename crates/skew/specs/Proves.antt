@@ -1,14 +1,15 @@
 -- What the loop that is shown proves of the periods: above the floor that no smaller one has a schedule, and where there is no answer, that
--- none has.
+-- none has. And how a reader sees it on the slacks of the loop's rules.
 use mathlib.Core.Path.{_≡_}
 use mathlib.Core.List.{List}
 use Prim.Native.Nat.{ℕ, _≤_, _<_}
-use lib.IntN.{pos}
-use lib.Signed.{_<ℤ_}
+use lib.IntN.{ℤ, pos}
+use lib.Signed.{_≤ℤ_, _<ℤ_}
+use Rattle.whole.specs.Sums.{total}
 use Rattle.paper.specs.declared.Outcome.{Outcome}
 use Rattle.paper.specs.declared.Outcome.the-variants as outcome
 use Rattle.paper.specs.Network.{Network}
-use Rattle.paper.specs.Rules.{Rule}
+use Rattle.paper.specs.Rules.{Rule, slackBy}
 use Rattle.paper.specs.Schedule.{Refutes, setups, need}
 use Rattle.paper.specs.Refusals.{Scheduled, NoPeriod}
 use Rattle.paper.specs.Outcome.{Left}
@@ -19,6 +20,12 @@ pub record ProvesLeast (N : Network) (P : ℕ) (l : List Rule) : Type 0 where
   pub none : (Q : ℕ) → Q < P → Scheduled N Q → ⊥
   pub has-setup : 0 < setups l
   pub needs : need N l ≡ pos P
+
+-- At period P, by the latencies x, the loop has no room for a period shorter by 1, which would take 1 from the slack of each of its setup
+-- rules: what the slacks of its rules add up to is less than the number of these. RULES 15.7: "The sum is at least 0"
+pub record LeavesNoRoom (N : Network) (P : ℕ) (x : ℕ → ℤ) (l : List Rule) : Type 0 where
+  pub from-zero : pos 0 ≤ℤ total (slackBy N P x) l
+  pub below-setups : total (slackBy N P x) l <ℤ pos (setups l)
 
 -- No period, however large, has a schedule: the loop has no setup rule, and contradicts itself at every period.
 pub record ProvesNone (N : Network) (l : List Rule) : Type 0 where

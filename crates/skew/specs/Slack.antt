@@ -5,10 +5,10 @@ use mathlib.Core.Bool.{Bool, true, false, _&&_}
 use Prim.Native.Nat.{ℕ}
 use lib.IntN.{ℤ, pos, negsuc}
 use Rattle.paper.specs.Network.{Network}
-use Rattle.paper.specs.Rules.{Rule, slack}
-use Rattle.paper.specs.File.{natural, within, networkOf}
+use Rattle.paper.specs.Rules.{Rule}
+use Rattle.paper.specs.File.{within, networkOf}
 use Rattle.paper.specs.Refusals.{Accepted}
-use Rattle.paper.specs.Question.{Question, asked, Asked, InRange}
+use Rattle.paper.specs.Question.{Question, asked, Asked, InRange, slackAsked}
 use Rattle.paper.specs.Limits.{mostPeriod, leastLatency, mostLatency}
 
 -- the ranges of the period and of the latencies at the arrow's tail and head
@@ -37,4 +37,4 @@ pub record Askable (f : List ℕ) (n : ℕ) (q : Question) : Type 0 where
 
 -- z is the slack of the rule that is asked for
 abbrev pub IsSlack : Network → Question → ℤ → Type 0
-IsSlack N q z = (r : Rule) → Asked N q r → z ≡ slack N (natural (q .period)) r (q .tail-latency) (q .head-latency)
+IsSlack N q z = (r : Rule) → Asked N q r → z ≡ slackAsked N q r

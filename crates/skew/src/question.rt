@@ -1,5 +1,5 @@
-// The rule question: whether a rule of a file's network is met by the latencies at its arrow's two ends. Its slack is computed first, as a
-// length of time; yes is a slack from 0 up.
+// The rule question: by how much a rule of a file's network is met by the latencies at its arrow's two ends. It is told as a length of time,
+// below 0 where the rule is broken.
 ghost use mathlib.Core.Path.{_≡_};
 ghost use Rattle.paper.specs.File.{networkOf};
 ghost use Rattle.paper.specs.Refusals.{Accepted};
@@ -15,7 +15,7 @@ use paper::limits;
 use whole::all3;
 use whole::within;
 
-// The file's own fault comes first, then number 10, then yes or no.
+// The file's own fault comes first, then number 10, then the slack.
 pub fn question(file: &[u8], period: i32, kind: i32, number: i32, tail: i32, head: i32) -> Reply
     ensures { λ r. ⌜ FileAnswers (now (file .entry)) (asked period kind number tail head) r ⌝ }
 {
@@ -26,7 +26,7 @@ pub fn question(file: &[u8], period: i32, kind: i32, number: i32, tail: i32, hea
     }
 }
 
-// The reply where the file is accepted: number 10, yes or no.
+// The reply where the file is accepted: number 10, or the slack.
 fn reply(file: &[u8], period: i32, kind: i32, number: i32, tail: i32, head: i32) -> Reply
     requires { ⌜ Accepted (now file) ⌝ }
     ensures { λ r. ⌜ FileAnswers (now (file .entry)) (asked period kind number tail head) r ⌝ }
@@ -51,8 +51,7 @@ fn reply(file: &[u8], period: i32, kind: i32, number: i32, tail: i32, head: i32)
         Latency(tail),
         Latency(head),
     );
-    // RULES 2.6: "Equality meets a rule."
-    if 0 <= s.0 { Reply::Yes } else { Reply::No }
+    Reply::Slack(s)
 }
 
 // The period from 1 to 10,000,000, both latencies from -1,000,000 to 1,000,000.

@@ -3,9 +3,11 @@
 // arguments there: where its bytes stand, then how many there are.
 ghost use mathlib.Core.Path.{_≡_};
 ghost use Prim.Native.Nat.{_<_};
+ghost use Rattle.whole.specs.Four.{wordOf};
 ghost use Rattle.paper.specs.Question.{asked};
-ghost use Rattle.skew_c.specs.Packed.{packed, mostPlaces, yesOf};
+ghost use Rattle.skew_c.specs.Packed.{packed, aboveOf};
 ghost use Rattle.skew_c.specs.Returned.{Scheduled, Replied};
+use paper::Delay;
 use paper::Reply;
 
 // Reads the network in `file` and leaves the answer in `out`. It returns for every file and every size of `out`.
@@ -16,10 +18,10 @@ pub extern "C" fn skew_schedule(file: &[u8], out: &mut [u8]) -> u64
     let o = skew::schedule::schedule(file, out);
     let number = paper::codes::outcome_number(o);
     let place = paper::codes::outcome_place(o);
-    pack(number, place, 0)
+    pack(number, place as u64)
 }
 
-// Whether the rule of this kind and number is met at `period` by the latencies at its arrow's tail and head.
+// By how much the rule of this kind and number is met at `period` by the latencies at its arrow's tail and head.
 #[no_mangle]
 pub extern "C" fn skew_question(
     file: &[u8],
@@ -33,26 +35,30 @@ pub extern "C" fn skew_question(
 {
     let o = skew::question::question(file, period, kind, number, tail, head);
     let refusal = paper::codes::reply_number(o);
-    let place = paper::codes::reply_place(o);
-    let met = yes_of(o);
-    pack(refusal, place, met)
+    pack(refusal, above(o))
 }
 
-// 1 for yes, and 0 for no and for a refusal.
-fn yes_of(o: Reply) -> u64
-    ensures { λ r. ⌜ r ≡ yesOf o ⌝ }
+// What stands above a reply's number: the slack, or a refusal's place.
+fn above(o: Reply) -> u64
+    ensures { λ r. ⌜ r ≡ aboveOf o ⌝ }
 {
     match o {
-        Reply::Yes => 1,
-        Reply::No => 0,
-        Reply::Refused(_) => 0,
+        Reply::Slack(s) => word(s),
+        Reply::Refused(x) => paper::codes::refusal_place(x) as u64,
     }
 }
 
-// The integer that carries a number, a place and a yes.
-fn pack(number: u32, place: usize, met: u64) -> u64
-    requires { ⌜ (place < mostPlaces) × (met < 2) ⌝ }
-    ensures { λ r. ⌜ r ≡ packed number place met ⌝ }
+// A slack in two's complement, of 32 bits.
+fn word(s: Delay) -> u64
+    ensures { λ r. ⌜ r ≡ wordOf (s .0) ⌝ }
 {
-    number as u64 + place as u64 * 4_294_967_296 + met * 9_223_372_036_854_775_808
+    whole::unsigned(s.0) as u64
+}
+
+// The integer that carries a number and what stands above it.
+fn pack(number: u32, above: u64) -> u64
+    requires { ⌜ above < 4294967296 ⌝ }
+    ensures { λ r. ⌜ r ≡ packed number above ⌝ }
+{
+    number as u64 + above * 4_294_967_296
 }

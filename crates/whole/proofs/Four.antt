@@ -19,13 +19,13 @@ use Rattle.whole.proofs.Lin.{lin, minus}
 use Rattle.whole.proofs.Stores.{stores-before, stores-after, stores-at}
 
 -- the number without sign that stands for a number of 32 bits is below 2 ^ 32
-word-small : (z : ℤ) → SFits w32 z → wordOf z < 4294967296
+pub word-small : (z : ℤ) → SFits w32 z → wordOf z < 4294967296
 unfolding wordOf
 word-small (pos n) h = omega (arith, h .sfits)
 word-small (negsuc n) h = omega (arith, h .sfits)
 
 -- and the number comes back from it
-signed-word : (z : ℤ) → SFits w32 z → signedOf (wordOf z) ≡ z
+pub signed-word : (z : ℤ) → SFits w32 z → signedOf (wordOf z) ≡ z
 unfolding signedOf wordOf
 signed-word (pos n) h = rw (lt-ltb n 2147483648 (h .sfits))
 signed-word (negsuc n) h =

@@ -45,7 +45,7 @@ pub fn number(s: &[u8], at: usize) -> i32
 }
 
 // The number without sign that stands for a number.
-fn unsigned(z: i32) -> u32
+pub fn unsigned(z: i32) -> u32
     ensures { λ r. ⌜ r ≡ wordOf z ⌝ }
 {
     if z < 0 {

@@ -6,4 +6,7 @@ pub mod CaseBytes
 pub mod Refusing
 pub mod RejectionTests
 pub mod RejectedCases
+pub mod QuestionTests
 pub mod RejectedQuestionCases
+pub mod SlackCases
+pub mod RejectedSlackCases

@@ -10,7 +10,7 @@ use lib.IntN.{ℤ}
 use lib.Signed.{leZ, ltZ, _≤ℤ_, _<ℤ_}
 use lib.Dec.{leb, ltb, eqb}
 use borrow.Author.Tests.{leb-true, ltb-true, eqb-true, not-true}
-use Rattle.whole.proofs.Lin.{lin}
+use Rattle.whole.proofs.Lin.{lin, true-not-false}
 use Rattle.paper.specs.Chains.{All}
 use Rattle.worked.proofs.Tests.{Test, via, never}
 
@@ -49,6 +49,9 @@ impossible = record { passes = true; shows = λ e a. a }
 abbrev pub isFalse : (b : Bool) → Test (b ≡ false)
 isFalse b = record { passes = not b; shows = λ e. not-true b e }
 
+abbrev pub notTrue : (b : Bool) → Test (b ≡ true → ⊥)
+notTrue b = record { passes = not b; shows = λ e t. true-not-false t (not-true b e) }
+
 abbrev pub notLess : (a b : ℕ) → Test (a < b → ⊥)
 notLess a b = record { passes = leb b a; shows = λ e h. let l = leb-true b a e in omega arith }
 
@@ -63,6 +66,12 @@ notAtMostℤ a b = record { passes = ltZ b a; shows = λ e h. omega lin }
 
 abbrev pub notLessℤ : (a b : ℤ) → Test (a <ℤ b → ⊥)
 notLessℤ a b = record { passes = leZ b a; shows = λ e h. omega lin }
+
+pub ways-both : {a b : ℤ} → a ≡ b → (a ≤ℤ b) × (b ≤ℤ a)
+ways-both e = (omega lin, omega lin)
+
+abbrev pub notSameℤ : (a b : ℤ) → Test (a ≡ b → ⊥)
+notSameℤ a b = refuting ways-both (notBoth (notAtMostℤ a b) (notAtMostℤ b a))
 
 -- of some member of a list, and of some number below n
 module _ {E : Type 0} (P : E → Type 0) (t : (e : E) → Test (P e → ⊥)) where

@@ -2,7 +2,7 @@
 -- computing its tests, so that a row that does not meet them is refused by its group's name. Rests on `RejectionTests` and, for the room of
 -- an output and the number that is returned where there is enough, on the rows of `WorkedCases`.
 use mathlib.Core.Path.{_≡_, refl}
-use mathlib.Core.List.{List, [], _∷_, _++_}
+use mathlib.Core.List.{List, [], _∷_}
 use lib.IntN.{pos, negℤ}
 use lib.ListN.{length}
 use Rattle.whole.specs.Four.{wordAt, signedOf, numberAt, wordOf, bytesOf, four}
@@ -11,18 +11,14 @@ use Rattle.paper.specs.Chains.{All}
 use Rattle.paper.specs.File.{marked, within, windowed, headed, counted, sized, ranged, registerOk, pathOk, networkOf}
 use Rattle.worked.specs.Cases.{fileOf, networkA, caseA, caseA4, caseA7, caseD, caseF}
 use Rattle.worked.specs.Rejected.{Rejection, Rejected, A, heads, counts, lengths, ranges, registerRows, pathRows, several, rooms, rules, loops, shows, schedules, answers, groups, joined, rejections}
-use Rattle.worked.proofs.Tests.{every}
+use Rattle.worked.proofs.Tests.{every, all-both}
 use Rattle.worked.proofs.RejectionTests.{rejectedTest, shortTest, byLoop, byShorter, byFloor, byCeiling, byLower}
 use Rattle.worked.proofs.WorkedCases.{row-A, row-A4, row-A7, row-D, row-F}
 
--- what holds of every row of two groups holds of both in one list, and so of all groups
-all-both : (l m : List Rejection) → All Rejected l → All Rejected m → All Rejected (l ++ m)
-all-both [] m a b = b
-all-both (r ∷ l) m a b = (a .0, all-both l m (a .1) b)
-
+-- what holds of every row of each group holds of all groups in one list
 all-joined : (l : List (List Rejection)) → All (All Rejected) l → All Rejected (joined l)
 all-joined [] a = tt
-all-joined (g ∷ l) a = all-both g (joined l) (a .0) (all-joined l (a .1))
+all-joined (g ∷ l) a = all-both Rejected g (joined l) (a .0) (all-joined l (a .1))
 
 -- ---- files
 

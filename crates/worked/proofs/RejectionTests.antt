@@ -65,7 +65,7 @@ module _ (f : List ℕ) (n p : ℕ) where
         asking = λ q. given-before (faults f) (questionRows (networkOf f) q) n p b;
       }
 
-  abbrev refusedTest : Test (Refused n p f)
+  abbrev pub refusedTest : Test (Refused n p f)
   refusedTest = via by-fault faultTest
 
 -- a worked network's row gives its number where there is room, and 7 where there is less by a byte or more

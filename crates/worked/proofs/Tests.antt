@@ -2,7 +2,7 @@
 -- `both` of `Legal`.
 use mathlib.Core.Path.{_≡_, refl}
 use mathlib.Core.Logic.{_≢_}
-use mathlib.Core.List.{List, [], _∷_}
+use mathlib.Core.List.{List, [], _∷_, _++_}
 use mathlib.Core.Bool.{Bool, true, false, not, _&&_}
 use Prim.Native.Nat.{ℕ, zero, suc, _<_, _≤_}
 use native.Mathlib.Omega.{arith}
@@ -57,6 +57,12 @@ atMostℤ a b = record { passes = leZ a b; shows = λ e. omega lin }
 abbrev pub lessℤ : (a b : ℤ) → Test (a <ℤ b)
 lessℤ a b = record { passes = ltZ a b; shows = λ e. omega lin }
 
+pub both-ways : {a b : ℤ} → (a ≤ℤ b) × (b ≤ℤ a) → a ≡ b
+both-ways h = let l = h .0 in let g = h .1 in omega lin
+
+abbrev pub sameℤ : (a b : ℤ) → Test (a ≡ b)
+sameℤ a b = via both-ways (pair (atMostℤ a b) (atMostℤ b a))
+
 -- of every member of a list, and of every number below n
 module _ {E : Type 0} (P : E → Type 0) (t : (e : E) → Test (P e)) where
   abbrev pub every : (l : List E) → Test (All P l)
@@ -74,3 +80,8 @@ module _ (P : ℕ → Type 0) where
   abbrev pub below : ((i : ℕ) → Test (P i)) → (n : ℕ) → Test ((i : ℕ) → i < n → P i)
   below t zero = record { passes = true; shows = λ e i l. absurd (omega arith) }
   below t (suc n) = via (one-more n) (pair (t n) (below t n))
+
+-- what holds of every member of two lists holds of both in one
+pub all-both : {E : Type 0} (P : E → Type 0) (l m : List E) → All P l → All P m → All P (l ++ m)
+all-both P [] m a b = b
+all-both P (e ∷ l) m a b = (a .0, all-both P l m (a .1) b)

@@ -1,1 +1,1 @@
-// Tables, no code: networks worked by hand, and what must be refused. See specs/ and proofs/.
+// Tables, no code: networks and slacks worked by hand, and what must be refused. See specs/ and proofs/.

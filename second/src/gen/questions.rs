@@ -1,9 +1,8 @@
 //! Questions about single rules: each part at and past its limits, and latencies that just meet or just break a rule.
 
 use crate::draft::Draft;
-use crate::file;
 use crate::paper::{LATENCY_MOST, PERIOD_MOST};
-use crate::question::Question;
+use crate::question::{reply, Question, Reply};
 use crate::rng::Rng;
 
 const LATENCY: i32 = LATENCY_MOST as i32;
@@ -55,26 +54,24 @@ fn latency(rng: &mut Rng) -> i32 {
     }
 }
 
-/// Moves one latency to where the rule is just met, or 1 to either side, if that is in range.
+/// Moves a latency, or the period, to where the slack is -1, 0 or 1, if that is in range.
 fn at_the_edge(rng: &mut Rng, draft: &Draft, question: Question) -> Question {
-    let network = file::read(&draft.file()).expect("the drafts asked about are accepted");
-    let Some(rule) = network.rule(question.kind, question.number) else {
+    let file = draft.file();
+    let due = rng.between(-1, 1);
+    let first = rng.index(3);
+    let Reply::Slack(slack) = reply(&file, &question) else {
         return question;
     };
-    let nudge = rng.between(-1, 1);
-    let edge = network.amount(rule, i64::from(question.period)) as i32 + nudge;
-    let moved = match question.kind {
-        // The latency of the register itself, which is at the head for low and at the tail for high.
-        2 => Question { at_head: edge, ..question },
-        3 => Question { at_tail: -edge, ..question },
-        _ => Question { at_head: question.at_tail + edge, ..question },
-    };
-    let fits = moved.at_head.abs() <= LATENCY && moved.at_tail.abs() <= LATENCY;
-    if fits {
-        moved
-    } else {
-        question
-    }
+    let short = due - slack as i32;
+    let mut moved = [
+        Question { at_head: question.at_head + short, ..question },
+        Question { at_tail: question.at_tail - short, ..question },
+        Question { period: question.period + short, ..question },
+    ];
+    moved.rotate_left(first);
+    // What the rule does not read, or what would leave its range, cannot be moved to any effect.
+    let there = |moved: &Question| reply(&file, moved) == Reply::Slack(i64::from(due));
+    moved.into_iter().find(there).unwrap_or(question)
 }
 
 /// Puts one part at or just past its limit, or far past it.

@@ -1,5 +1,5 @@
-//! What several tests share: the paper's worked cases, outputs written by hand, and the definitions tried out by
-//! exhaustion on networks small enough for it.
+//! What several tests share: outputs written by hand, and the definitions tried out by exhaustion on networks small
+//! enough for it.
 #![allow(dead_code)]
 
 use second::draft::{put_record, Draft};
@@ -7,61 +7,6 @@ use second::file;
 use second::paper::{Kind, Network, Rule};
 use second::rng::Rng;
 use second::wire::fresh_buffer;
-
-/// A worked case: its name, its network and what RULES 11.5 says of it. The period is 0 for a refusal.
-pub struct Case {
-    pub name: &'static str,
-    pub draft: Draft,
-    pub number: i32,
-    pub period: i64,
-    pub latencies: &'static [i64],
-    pub witness: &'static [(Kind, usize)],
-}
-
-fn network_a() -> Draft {
-    Draft {
-        floor: 1,
-        ceiling: 100,
-        uncertainty: 0,
-        registers: vec![[1, 1, 0, 0], [1, 1, -10, 10], [1, 1, -10, 10]],
-        paths: vec![[0, 1, 2, 9], [1, 2, 2, 3], [2, 0, 2, 6]],
-    }
-}
-
-fn network_d() -> Draft {
-    Draft {
-        floor: 1,
-        ceiling: 100,
-        uncertainty: 0,
-        registers: vec![[0, 0, 0, 0], [0, 0, -10, 10]],
-        paths: vec![[0, 1, 5, 10], [1, 0, 5, 5]],
-    }
-}
-
-fn lone(hold: i32, paths: Vec<[i32; 4]>) -> Draft {
-    Draft { floor: 1, ceiling: 100, uncertainty: 0, registers: vec![[0, hold, 0, 0]], paths }
-}
-
-#[rustfmt::skip]
-pub fn worked_cases() -> Vec<Case> {
-    use Kind::*;
-    let a = network_a;
-    let e = Draft { registers: vec![[0, 0, 0, 0], [0, 0, 0, 1]], ..network_d() };
-    let case = |name, draft, number, period, latencies, witness| Case { name, draft, number, period, latencies, witness };
-    vec![
-        case("A", a(), 0, 9, &[0, 1, -1], &[(Setup, 0), (Hold, 0)]),
-        case("A2", Draft { floor: 9, ..a() }, 0, 9, &[0, 1, -1], &[]),
-        case("A3", Draft { floor: 20, ..a() }, 0, 20, &[0, -2, -1], &[]),
-        case("A4", Draft { ceiling: 8, ..a() }, 9, 0, &[], &[(Setup, 0), (Hold, 0)]),
-        case("A5", Draft { ceiling: 9, ..a() }, 0, 9, &[0, 1, -1], &[(Setup, 0), (Hold, 0)]),
-        case("A6", Draft { uncertainty: 1, ..a() }, 0, 11, &[0, 0, 0], &[(Setup, 0), (Hold, 0)]),
-        case("A7", Draft { uncertainty: 2, ..a() }, 8, 0, &[], &[(Hold, 2), (Hold, 1), (Hold, 0)]),
-        case("B", lone(1, vec![[0, 0, 0, 5]]), 8, 0, &[], &[(Hold, 0)]),
-        case("D", network_d(), 0, 8, &[0, 2], &[(Setup, 0), (Setup, 1)]),
-        case("E", e, 0, 9, &[0, 1], &[(Setup, 0), (High, 1)]),
-        case("F", lone(0, vec![]), 0, 1, &[0], &[]),
-    ]
-}
 
 pub fn accepted(draft: &Draft) -> Network {
     file::read(&draft.file()).expect("the draft is a sound network")

@@ -17,7 +17,7 @@ pack-requires : tie.Need-pack-requires
 pack-requires c κs =
     let e = c .outcome-place .ensures in
     let h = outcome-below _ (scheduled-at c .schedule .ensures) in
-    (omega arith, omega arith)
+    omega arith
 
 returns : tie.Need-returns
 returns c =

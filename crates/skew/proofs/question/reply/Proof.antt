@@ -1,20 +1,17 @@
--- `skew::question::reply` meets its contract: number 10 where a test failed, else yes or no by the slack's sign. The parts answer of the
--- numbers as they are read back, which are the numbers themselves.
+-- `skew::question::reply` meets its contract: number 10 where a test failed, else the slack. The parts answer of the numbers as they are read
+-- back, which are the numbers themselves.
 use mathlib.Core.Path.{sym, _∙_}
 use mathlib.Core.List.{List}
 use borrow.Author.Needs.{needs}
 use borrow.Author.Tests.{not-true, not-false}
 use denote.Ref.{now}
-use mir.Syntax.{w32}
-use mir.Val.{SFits}
-use Rattle.whole.proofs.Lin.{lin}
 use Rattle.paper.specs.File.{networkOf}
 use Rattle.paper.specs.Refusals.{faults}
 use Rattle.paper.specs.declared.Reply.{Reply}
 use Rattle.paper.specs.Table.{Row}
 use Rattle.paper.specs.Question.{Question, asked, InRange, FileAnswers}
 use Rattle.skew.proofs.Limits.{read, asked-read}
-use Rattle.skew.proofs.Replies.{is-in-range, no-rule, no-numbers, question-reply, slack-yes, slack-no}
+use Rattle.skew.proofs.Replies.{is-in-range, no-rule, no-numbers, question-reply, slack-reply}
 use Rattle.skew.proofs.question.reply.Statement.{statement}
 use Rattle.skew.proofs.question.reply.Tie as tie
 
@@ -67,19 +64,9 @@ slack-requires c κs =
 
 returns-3 : tie.Need-returns-3
 returns-3 c =
-    let past = c .before .before .before in
-    let s = from-tests (past .before .before .before) in
-    let z = past .slack in
-    let f : SFits w32 (z .result .0) = search needs in
-    answered s (slack-yes _ (first s) (at s) (s .pre) (in-range (past .before)) (z .result .0) (z .ensures) (let u = c .if3 .taken in omega lin))
-
-returns-4 : tie.Need-returns-4
-returns-4 c =
-    let past = c .before .before .before in
-    let s = from-tests (past .before .before .before) in
-    let z = past .slack in
-    let f : SFits w32 (z .result .0) = search needs in
-    answered s (slack-no _ (first s) (at s) (s .pre) (in-range (past .before)) (z .result .0) (z .ensures) (let u = c .if3 .left in omega lin))
+    let past = c .before in
+    let s = from-tests (past .before .before) in
+    answered s (slack-reply _ (first s) (at s) (s .pre) (in-range past) (c .slack .result) (c .slack .ensures))
 
 pub reply-spec : {M : Type 1} → statement M
 reply-spec =
@@ -91,5 +78,4 @@ reply-spec =
     returns
     returns-2
     slack-requires
-    returns-3
-    returns-4)
+    returns-3)

@@ -5,6 +5,8 @@ use Prim.Native.Nat.{ℕ}
 use lib.IntN.{natAbs, _-ℤ_}
 use denote.Ref.{now}
 use mir.Facts.{toZ-ofZ}
+use borrow.Author.Needs.{needs}
+use Rattle.whole.proofs.Lin.{lin}
 use Rattle.paper.specs.Network.{Network}
 use Rattle.paper.specs.Rules.{Setup, Hold, Low, High, base, amount}
 use Rattle.paper.specs.File.{natural, networkOf}
@@ -12,7 +14,7 @@ use Rattle.paper.specs.Question.{Question, asked, Asked}
 use Rattle.network.proofs.Counts.{natural-from}
 use Rattle.network.proofs.Ranges.{PathRanges, path-ranges, register-ranges}
 use Rattle.rules.proofs.Ranges.{small-register, small-ends}
-use Rattle.skew.proofs.Limits.{read, period-is, small-arrow, period-fits}
+use Rattle.skew.proofs.Limits.{read, period-is, tail-small, head-small, amount-is-small, period-fits}
 use Rattle.skew.proofs.Named.{matched, cast-is, number-from, named, named-last, asked-slack}
 use Rattle.skew.proofs.question.slack.Statement.{statement}
 use Rattle.skew.proofs.question.slack.Tie as tie
@@ -107,7 +109,15 @@ setup-amount : (c : tie.After-setup-at) → c .setup-at .result .0 ≡ amount (n
 setup-amount c = c .setup-at .ensures ∙ ap₂ _-ℤ_ (setup-base (c .before)) (period-is (s1 (arm-at c) .pre .in-range .period-within))
 
 slack-requires : tie.Need-slack-requires
-slack-requires c κs = small-arrow (s1 (arm-at c) .pre) (Setup (k (s1 (arm-at c)))) (is-setup (arm-at c)) (setup-amount c)
+slack-requires c κs =
+    let p = s1 (arm-at c) .pre in
+    let t = tail-small p in
+    let h = head-small p in
+    record {
+      of-amount = amount-is-small p (Setup (k (s1 (arm-at c)))) (is-setup (arm-at c)) (setup-amount c);
+      at-tail = search needs;
+      at-head = search needs;
+    }
 
 returns : tie.Need-returns
 returns c =
@@ -146,7 +156,15 @@ hold-amount c =
     c .hold .ensures (net s) (k s) road (rw (road .to) at (c .before .register2 .ensures))
 
 slack-requires-2 : tie.Need-slack-requires-2
-slack-requires-2 c κs = small-arrow (s2 (arm-hold c) .pre) (Hold (k (s2 (arm-hold c)))) (is-hold (arm-hold c)) (hold-amount c)
+slack-requires-2 c κs =
+    let p = s2 (arm-hold c) .pre in
+    let t = tail-small p in
+    let h = head-small p in
+    record {
+      of-amount = amount-is-small p (Hold (k (s2 (arm-hold c)))) (is-hold (arm-hold c)) (hold-amount c);
+      at-tail = search needs;
+      at-head = search needs;
+    }
 
 returns-2 : tie.Need-returns-2
 returns-2 c =
@@ -170,7 +188,15 @@ low-amount : (c : tie.After-low) → c .low .result .0 ≡ amount (net (s3 (arm-
 low-amount c = let s = s3 (arm-low c) in c .low .ensures (net s) (k s) (c .before .register3 .ensures)
 
 slack-requires-3 : tie.Need-slack-requires-3
-slack-requires-3 c κs = small-arrow (s3 (arm-low c) .pre) (Low (k (s3 (arm-low c)))) (is-low (arm-low c)) (low-amount c)
+slack-requires-3 c κs =
+    let p = s3 (arm-low c) .pre in
+    let t = tail-small p in
+    let h = head-small p in
+    record {
+      of-amount = amount-is-small p (Low (k (s3 (arm-low c)))) (is-low (arm-low c)) (low-amount c);
+      at-tail = record { from = omega lin; to = omega lin };
+      at-head = search needs;
+    }
 
 returns-3 : tie.Need-returns-3
 returns-3 c =
@@ -194,7 +220,15 @@ high-amount : (c : tie.After-high) → c .high .result .0 ≡ amount (net (s4 (a
 high-amount c = let s = s4 (arm-high c) in c .high .ensures (net s) (k s) (c .before .register4 .ensures)
 
 slack-requires-4 : tie.Need-slack-requires-4
-slack-requires-4 c κs = small-arrow (s4 (arm-high c) .pre) (High (k (s4 (arm-high c)))) (is-high (arm-high c)) (high-amount c)
+slack-requires-4 c κs =
+    let p = s4 (arm-high c) .pre in
+    let t = tail-small p in
+    let h = head-small p in
+    record {
+      of-amount = amount-is-small p (High (k (s4 (arm-high c)))) (is-high (arm-high c)) (high-amount c);
+      at-tail = search needs;
+      at-head = record { from = omega lin; to = omega lin };
+    }
 
 returns-4 : tie.Need-returns-4
 returns-4 c =
