@@ -76,12 +76,20 @@ bool tells_slack(const Build &build, const File &file) {
 
 bool says_yes(uint64_t result, bool slack) { return slack ? skew_yes(result) : result >> 63; }
 
+// The hold rule of a path from a register to itself. A build from before request 2026-02 charges it u, so answers about it are not compared.
+bool self_hold(const File &file, const Asked &asked) {
+    if (asked.kind != 1 || !within(0, number_at(file.data(), 6) - 1, asked.number)) return false;
+    const size_t path = kHeader + kRecord * size_t(number_at(file.data(), 2) + asked.number);
+    return number_at(file.data(), path + 2) == number_at(file.data(), path + 6);
+}
+
 // Answers of two builds that tell the slack, or that do not, must be the same integer, and so must refusals. Of a slack and a yes or no the
 // yes is compared.
 void check(const Build &base, const Build &other, const Inquiry &about, bool slack, bool other_slack) {
     for (const Asked &asked : about.asked) {
         const uint64_t result = ask(base.question, about.file, asked), other_result = ask(other.question, about.file, asked);
         const bool comparable = slack == other_slack || skew_number(result) != 0 || skew_number(other_result) != 0;
+        if (skew_number(result) == 0 && skew_number(other_result) == 0 && self_hold(about.file, asked)) continue;
         if (comparable ? result != other_result : says_yes(result, slack) != says_yes(other_result, other_slack)) {
             std::printf("rule %d %d: the builds' answers differ (%016llx and %016llx)\n", asked.kind, asked.number,
                 static_cast<unsigned long long>(result), static_cast<unsigned long long>(other_result));

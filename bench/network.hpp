@@ -24,6 +24,9 @@ inline bool marked(const uint8_t *file, size_t at, char first, char second) {
     return file[at] == uint8_t(first) && file[at + 1] == uint8_t(second);
 }
 
+// What the hold rule of a path is charged of the uncertainty.
+inline int32_t hold_charge(int32_t from, int32_t to, int32_t u) { return from == to ? 0 : u; }
+
 // Number and place in one integer, as the module's header packs them.
 inline uint64_t refusal(uint32_t number, size_t place = 0) { return number | uint64_t(place) << 32; }
 
@@ -70,7 +73,7 @@ struct Arrow {
 
 inline std::vector<Arrow> arrows_of(const uint8_t *file) {
     const size_t n = size_t(number_at(file, 2)), m = size_t(number_at(file, 6));
-    const int64_t u = number_at(file, 18);
+    const int32_t u = number_at(file, 18);
     std::vector<Arrow> arrows;
     arrows.reserve(2 * (n + m));
     for (size_t i = 1; i < n; ++i) {
@@ -82,7 +85,7 @@ inline std::vector<Arrow> arrows_of(const uint8_t *file) {
         const size_t at = kHeader + kRecord * (n + p);
         const int from = number_at(file, at + 2), to = number_at(file, at + 6);
         const size_t receiver = kHeader + kRecord * size_t(to);
-        arrows.push_back({to, from, number_at(file, receiver + 6) + u - number_at(file, at + 10), false});
+        arrows.push_back({to, from, number_at(file, receiver + 6) + hold_charge(from, to, u) - number_at(file, at + 10), false});
         arrows.push_back({from, to, number_at(file, at + 14) + number_at(file, receiver + 2) + u, true});
     }
     return arrows;

@@ -47,7 +47,7 @@ void fill(const uint8_t *file, Memory &g) {
         const size_t receiver = kHeader + kRecord * size_t(to);
         g.tail[hold] = g.head[setup] = uint16_t(to);
         g.head[hold] = g.tail[setup] = uint16_t(from);
-        g.amount[hold] = number_at(file, receiver + 6) + u - number_at(file, at + 10);
+        g.amount[hold] = number_at(file, receiver + 6) + hold_charge(from, to, u) - number_at(file, at + 10);
         g.base[p] = number_at(file, at + 14) + number_at(file, receiver + 2) + u;
     }
 }
@@ -215,10 +215,10 @@ int32_t slack(const uint8_t *file, int32_t period, int32_t kind, int32_t number,
     if (kind == 2) return head - number_at(file, own + 10);
     if (kind == 3) return number_at(file, own + 14) - tail;
     const size_t path = own + kRecord * size_t(number_at(file, 2));
-    const size_t receiver = kHeader + kRecord * size_t(number_at(file, path + 6));
-    const int32_t u = number_at(file, 18);
+    const int32_t from = number_at(file, path + 2), to = number_at(file, path + 6), u = number_at(file, 18);
+    const size_t receiver = kHeader + kRecord * size_t(to);
     return kind == 0 ? head + period - (tail + number_at(file, path + 14) + number_at(file, receiver + 2) + u)
-                     : head + number_at(file, path + 10) - (tail + number_at(file, receiver + 6) + u);
+                     : head + number_at(file, path + 10) - (tail + number_at(file, receiver + 6) + hold_charge(from, to, u));
 }
 
 } // namespace

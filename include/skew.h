@@ -54,14 +54,15 @@ enum {
  *
  *  setup  (head + period) - (tail + dmax + setup + u)   how long before the receiver's next edge the slowest data is there,
  *                                                       beyond setup time and uncertainty
- *  hold   (head + dmin) - (tail + hold + u)             how long after the receiver's edge the fastest data comes,
+ *  hold   (head + dmin) - (tail + hold + c)             how long after the receiver's edge the fastest data comes,
  *                                                       beyond hold time and uncertainty
  *  low    head - low                                    how far the register's latency is above the low end of its window
  *  high   high - tail                                   how far it is below the high end
  *
- * tail and head are the latencies that the question gives, setup and hold the receiver's times. Slacks of setup rules lie between
- * -3,109,999 and 12,100,000, of hold rules between -2,110,000 and 3,100,000, of low and high rules between -2,000,000 and 2,000,000
- * (RULES 15.6). */
+ * tail and head are the latencies that the question gives, setup and hold the receiver's times, and u the file's uncertainty. c is 0 on a
+ * path from a register to itself, where one edge cannot be early and late at once, and u on every other path (RULES 16.2). Slacks of setup
+ * rules lie between -3,109,999 and 12,100,000, of hold rules between -2,110,000 and 3,100,000, of low and high rules between -2,000,000 and
+ * 2,000,000 (RULES 15.6). */
 static inline uint32_t skew_number(uint64_t result) { return (uint32_t)(result & 0xffffffffu); }
 
 /* The place of a refusal, as the numbers above have it; 0 after number 0. */

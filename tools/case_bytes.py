@@ -11,7 +11,9 @@ import sys
 ROOT = pathlib.Path(__file__).resolve().parent.parent
 STDIN = ROOT / "crates" / "exam" / "stdin"
 MODULE = ROOT / "crates" / "worked" / "proofs" / "CaseBytes.antt"
-NAMES = ["A", "A2", "A3", "A4", "A5", "A6", "A7", "B", "D", "E", "F"]
+PAPER = ["A", "A2", "A3", "A4", "A5", "A6", "A7", "B", "D", "E", "F"]  # rows of Cases.antt
+REQUESTS = ["T", "T2", "T3", "T4", "T5", "T6", "T7", "T8", "T9"]  # rows of RequestCases.antt
+NAMES = PAPER + REQUESTS
 HEADER, RECORD = 22, 18
 
 TOP = """-- The files of the worked networks, byte by byte and a line for each record, as `exam` has them for its stored input: tools/case_bytes.py
@@ -19,7 +21,8 @@ TOP = """-- The files of the worked networks, byte by byte and a line for each r
 use mathlib.Core.Path.{_≡_, refl}
 use mathlib.Core.List.{[], _∷_}
 use Rattle.whole.specs.Four.{wordOf, bytesOf, four}
-use Rattle.worked.specs.Cases.{fileOf, CASES}
+use Rattle.worked.specs.Cases.{fileOf, PAPER}
+use Rattle.worked.specs.RequestCases.{REQUESTS}
 """
 
 STATEMENT = """
@@ -63,12 +66,16 @@ def statement(name, file):
     return STATEMENT.replace("NAME", name).replace("BYTES", lines)
 
 
+def cases(names):
+    return ", ".join("case" + name for name in names)
+
+
 def module(data):
     """The module that states the bytes of the requests' files."""
     files = [file for _, file in requests(data)]
     if len(files) != len(NAMES):
         raise ValueError(f"{len(files)} requests, and {len(NAMES)} worked networks")
-    top = TOP.replace("CASES", ", ".join("case" + name for name in NAMES))
+    top = TOP.replace("PAPER", cases(PAPER)).replace("REQUESTS", cases(REQUESTS))
     return top + "".join(statement(name, file) for name, file in zip(NAMES, files))
 
 

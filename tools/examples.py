@@ -4,6 +4,7 @@
     examples.py FOLDER         as text and as network files:
                                a         network A, worked by hand in the paper
                                d         network D, worked by hand in the paper
+                               counter   network T7 of the paper: a counter of two bits, which toggle
                                pipeline  a pipeline of 40 registers with feedback, drawn from a fixed seed
     examples.py real FOLDER    the networks of real circuits, as network files; their texts are stored in examples/real
 """
@@ -32,6 +33,18 @@ register setup 0 hold 0 low 0 high 0
 register setup 0 hold 0 low -10 high 10
 path 0 1 5 10
 path 1 0 5 5
+"""
+
+COUNTER = """\
+# A counter of two bits, network T7. Path 0 is bit 0's way back to itself, path 2 bit 1's: a toggle flip-flop each, whose hold rule has
+# no u in it. Path 1 is the carry. Its setup and hold rules, with u in both, contradict each other at 14, so the least period is 15.
+network floor 1 ceiling 100 u 3
+register setup 0 hold 0 low 0 high 0
+register setup 2 hold 2 low -10 high 10
+register setup 2 hold 2 low -10 high 10
+path 1 1 2 5
+path 1 2 4 9
+path 2 2 3 6
 """
 
 REAL = Path(__file__).resolve().parent.parent / "examples" / "real"
@@ -73,7 +86,7 @@ def ends(draw, count):
 
 
 def texts():
-    return {"a": NETWORK_A, "d": NETWORK_D, "pipeline": pipeline()}
+    return {"a": NETWORK_A, "d": NETWORK_D, "counter": COUNTER, "pipeline": pipeline()}
 
 
 def write(folder):

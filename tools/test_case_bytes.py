@@ -14,9 +14,9 @@ class Stored(unittest.TestCase):
     def test_the_module_is_what_the_script_writes(self):
         self.assertEqual(self.text, case_bytes.module(self.data))
 
-    def test_there_are_eleven_requests_and_nothing_else(self):
+    def test_there_are_twenty_requests_and_nothing_else(self):
         found = case_bytes.requests(self.data)
-        self.assertEqual(len(found), 11)
+        self.assertEqual(len(found), 20)
         self.assertEqual(sum(9 + len(file) for _, file in found), len(self.data))
 
     def test_each_file_is_whole_and_has_room(self):

@@ -136,7 +136,8 @@ def arrows(data, period):
     result = []
     for source, sink, dmin, dmax in paths:
         result.append((source, sink, dmax + registers[sink][0] + u - period))
-        result.append((sink, source, registers[sink][1] + u - dmin))
+        charge = 0 if source == sink else u
+        result.append((sink, source, registers[sink][1] + charge - dmin))
     for i, (_, _, low, high) in enumerate(registers[1:], start=1):
         result += [(0, i, low), (i, 0, -high)]
     return n, result
@@ -161,8 +162,9 @@ class Examples(unittest.TestCase):
         with tempfile.TemporaryDirectory() as folder:
             self.assertEqual(run("examples.py", folder).returncode, 0)
             names = sorted(path.name for path in Path(folder).iterdir())
-            self.assertEqual(names, ["a.net", "a.txt", "d.net", "d.txt", "pipeline.net", "pipeline.txt"])
-            for name in ("a", "d", "pipeline"):
+            stems = ("a", "counter", "d", "pipeline")
+            self.assertEqual(names, [f"{stem}.{kind}" for stem in stems for kind in ("net", "txt")])
+            for name in stems:
                 lines = (Path(folder) / f"{name}.txt").read_text()
                 data = (Path(folder) / f"{name}.net").read_bytes()
                 bare = "".join(line + "\n" for line in lines.splitlines() if not line.startswith("#"))
@@ -179,7 +181,7 @@ class Examples(unittest.TestCase):
         self.assertEqual(examples.pipeline(), examples.pipeline())
 
     def test_schedules_of_the_small_ones(self):
-        for lines, period in ((examples.NETWORK_A, 9), (examples.NETWORK_D, 8)):
+        for lines, period in ((examples.NETWORK_A, 9), (examples.NETWORK_D, 8), (examples.COUNTER, 15)):
             data = network.make(lines)
             self.assertEqual((has_schedule(data, period - 1), has_schedule(data, period)), (False, True))
 

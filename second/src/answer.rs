@@ -4,9 +4,10 @@ use crate::draft::put_record;
 use crate::file::{self, Refusal};
 use crate::paper::Rule;
 use crate::question::Reply;
+use crate::slip::Slip;
 use crate::verdict::Verdict;
 use crate::wire::{fresh_buffer, Answer, Request};
-use crate::wrong::{self, Slip};
+use crate::wrong;
 
 pub fn answer(request: &Request, slip: Option<Slip>) -> Answer {
     match request {

@@ -8,6 +8,7 @@ pub mod planned;
 pub mod questions;
 pub mod rooms;
 pub mod tiny;
+pub mod toggles;
 
 use crate::draft::Draft;
 use crate::rng::Rng;
@@ -16,8 +17,9 @@ use crate::wire::Request;
 type NetworkMaker = fn(&mut Rng) -> Draft;
 
 /// The shapes that are networks; each is asked for with room enough.
-const NETWORKS: [(&str, NetworkMaker); 13] = [
+const NETWORKS: [(&str, NetworkMaker); 14] = [
     ("tiny", tiny::network),
+    ("toggles", toggles::network),
     ("medium", planned::medium),
     ("pipeline", planned::pipeline),
     ("dense", planned::dense),
@@ -36,7 +38,7 @@ const NETWORKS: [(&str, NetworkMaker); 13] = [
 const OTHERS: [&str; 6] = ["maximal", "damaged", "rooms", "questions", "ends", "mix"];
 
 /// Where the greatest networks begin in `NETWORKS`.
-const FIRST_MAXIMAL: usize = 2;
+const FIRST_MAXIMAL: usize = 3;
 
 pub fn shapes() -> Vec<&'static str> {
     NETWORKS.iter().map(|(name, _)| *name).chain(OTHERS).collect()
@@ -80,7 +82,8 @@ impl Source {
 
     fn mixed(&mut self) -> Request {
         let shape = match self.rng.between(1, 1_000) {
-            1..=580 => "tiny",
+            1..=480 => "tiny",
+            481..=580 => "toggles",
             581..=730 => "questions",
             731..=860 => "damaged",
             861..=910 => "rooms",
@@ -112,6 +115,7 @@ impl Source {
             1 => maximal::extreme(&mut self.rng),
             2..=20 => planned::medium(&mut self.rng),
             21..=50 => return ends::request(&mut self.rng),
+            51..=90 => return toggles::request(&mut self.rng),
             _ => tiny::network(&mut self.rng),
         };
         let question = questions::about(&mut self.rng, &draft);

@@ -7,8 +7,8 @@ use crate::answer::answer;
 use crate::check::{judge_question, Expected};
 use crate::gen::Source;
 use crate::paper::{Kind, Rule};
+use crate::slip::Slip;
 use crate::wire::{fresh_buffer, Answer, Request};
-use crate::wrong::Slip;
 
 const FAULTS_TOLD: usize = 10;
 const BYTES_TOLD: usize = 400;

@@ -19,6 +19,7 @@ pub mod listing;
 pub mod paper;
 pub mod question;
 pub mod rng;
+pub mod slip;
 pub mod solver;
 pub mod verdict;
 pub mod wire;

@@ -8,9 +8,9 @@ use second::answer::answer;
 use second::gen::{shapes, Source};
 use second::judge::{as_it_should_be, judge, try_programs};
 use second::listing::listing;
+use second::slip::Slip;
 use second::wire::{Request, ROOM_MOST};
 use second::worked;
-use second::wrong::Slip;
 
 fn main() -> ExitCode {
     let words: Vec<String> = std::env::args().skip(1).collect();

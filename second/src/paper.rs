@@ -26,6 +26,23 @@ pub struct Path {
     pub dmax: i64,
 }
 
+impl Path {
+    /// RULES 16.1: "A path that leads from a register to itself is a *self path*."
+    pub fn is_self(&self) -> bool {
+        self.from == self.to
+    }
+}
+
+/// What a hold rule is charged of u. RULES 2.8: "A hold rule is charged c: nothing where the path leads from a register
+/// to itself, and u once on every other path". Whatever reads a hold rule asks here.
+pub fn hold_charge(from: usize, to: usize, u: i64) -> i64 {
+    if from == to {
+        0
+    } else {
+        u
+    }
+}
+
 /// An accepted network: every field is within its range.
 #[derive(Clone, Debug, PartialEq, Eq)]
 pub struct Network {
@@ -124,6 +141,11 @@ impl Network {
         }
     }
 
+    /// What the path's hold rule is charged here.
+    pub fn charge_of_hold(&self, path: &Path) -> i64 {
+        hold_charge(path.from, path.to, self.uncertainty)
+    }
+
     /// By how much the latency at the arrow's head must at least exceed the one at its tail.
     pub fn amount(&self, rule: Rule, period: i64) -> i64 {
         match rule.kind {
@@ -133,7 +155,7 @@ impl Network {
             }
             Kind::Hold => {
                 let path = &self.paths[rule.number];
-                self.registers[path.to].hold + self.uncertainty - path.dmin
+                self.registers[path.to].hold + self.charge_of_hold(path) - path.dmin
             }
             Kind::Low => self.registers[rule.number].low,
             Kind::High => -self.registers[rule.number].high,
@@ -144,16 +166,15 @@ impl Network {
     /// the arrow. Low and high do not read the host's latency, so they are not the arrow form with 0 put in by the
     /// caller.
     pub fn slack(&self, rule: Rule, period: i64, at_tail: i64, at_head: i64) -> i64 {
-        let u = self.uncertainty;
         match rule.kind {
             Kind::Setup => {
                 let path = &self.paths[rule.number];
-                (at_head + period) - (at_tail + path.dmax + self.registers[path.to].setup + u)
+                (at_head + period) - (at_tail + path.dmax + self.registers[path.to].setup + self.uncertainty)
             }
             Kind::Hold => {
                 // The arrow runs against the path: the receiver stands at its tail, the sender at its head.
                 let path = &self.paths[rule.number];
-                (at_head + path.dmin) - (at_tail + self.registers[path.to].hold + u)
+                (at_head + path.dmin) - (at_tail + self.registers[path.to].hold + self.charge_of_hold(path))
             }
             Kind::Low => at_head - self.registers[rule.number].low,
             Kind::High => self.registers[rule.number].high - at_tail,

@@ -1,5 +1,5 @@
-//! The easy errors of this trade (RULES 12.1) and of the slack (RULES 15.10), one program each. A judge that does not
-//! catch them is no judge.
+//! The easy errors of this trade (RULES 12.1), of the slack (RULES 15.10) and of paths from a register to itself (RULES
+//! 16.13), one program each. A judge that does not catch them is no judge.
 //!
 //! All of them, and the right program beside them, use the fast solver, while the judge uses the plain one wherever
 //! that is quick enough: so a clean run of the right program is also a comparison of the two solvers.
@@ -8,83 +8,11 @@ use std::collections::{HashMap, HashSet};
 
 use crate::arrows::{Arrow, Problem};
 use crate::fast;
-use crate::file;
+use crate::file::{self, Refusal};
 use crate::paper::{Kind, Network, Path, Register, Rule};
 use crate::question::{self, Question, Reply};
+use crate::slip::Slip;
 use crate::verdict::Verdict;
-
-#[derive(Clone, Copy, Debug, PartialEq, Eq)]
-pub enum Slip {
-    /// In both tables: the period is put into the hold rule.
-    HoldPeriod,
-    RoundDown,
-    Shifted,
-    WorstPath,
-    SetupOnly,
-    Strict,
-    HoldTurned,
-    CutOff,
-    OneOff,
-    LowTail,
-    UncertaintySign,
-    DelaysExchanged,
-    SenderCharged,
-    TimesExchanged,
-}
-
-impl Slip {
-    /// The errors of RULES 12.1 first, then those of RULES 15.10 that are not among them.
-    pub const ALL: [Slip; 14] = [
-        Slip::HoldPeriod,
-        Slip::RoundDown,
-        Slip::Shifted,
-        Slip::WorstPath,
-        Slip::SetupOnly,
-        Slip::Strict,
-        Slip::HoldTurned,
-        Slip::CutOff,
-        Slip::OneOff,
-        Slip::LowTail,
-        Slip::UncertaintySign,
-        Slip::DelaysExchanged,
-        Slip::SenderCharged,
-        Slip::TimesExchanged,
-    ];
-
-    pub fn name(self) -> &'static str {
-        match self {
-            Slip::HoldPeriod => "hold-period",
-            Slip::RoundDown => "round-down",
-            Slip::Shifted => "shifted",
-            Slip::WorstPath => "worst-path",
-            Slip::SetupOnly => "setup-only",
-            Slip::Strict => "strict",
-            Slip::HoldTurned => "hold-turned",
-            Slip::CutOff => "cut-off",
-            Slip::OneOff => "one-off",
-            Slip::LowTail => "low-tail",
-            Slip::UncertaintySign => "u-sign",
-            Slip::DelaysExchanged => "delays-exchanged",
-            Slip::SenderCharged => "sender-charged",
-            Slip::TimesExchanged => "times-exchanged",
-        }
-    }
-
-    pub fn named(name: &str) -> Option<Slip> {
-        Slip::ALL.into_iter().find(|slip| slip.name() == name)
-    }
-
-    /// Whether the error is one of RULES 12.1, which give wrong schedules. The others are in the question's sum alone.
-    pub fn touches_solves(self) -> bool {
-        use Slip::*;
-        matches!(self, HoldPeriod | RoundDown | Shifted | WorstPath | SetupOnly | Strict)
-    }
-
-    /// Whether the error gives wrong answers to the rule question.
-    pub fn touches_questions(self) -> bool {
-        !matches!(self, Slip::RoundDown | Slip::Shifted | Slip::WorstPath | Slip::SetupOnly)
-    }
-}
 
 pub fn verdict(network: &Network, slip: Option<Slip>) -> Verdict {
     let right = Problem::of(network);
@@ -95,8 +23,18 @@ pub fn verdict(network: &Network, slip: Option<Slip>) -> Verdict {
         Some(Slip::SetupOnly) => without_holds(right),
         Some(Slip::RoundDown) => rounded_down(right),
         Some(Slip::Shifted) => moved_up(fast::solve(&right)),
-        _ => fast::solve(&right),
+        Some(Slip::SelfHoldMissing) => fast::solve(&without_self_holds(right)),
+        Some(slip) => fast::solve(&charged(network, slip)),
+        None => fast::solve(&right),
     }
+}
+
+/// The problem with each rule charged as the error has it. RULES 16.8 speaks of the one with u "charged everywhere",
+/// which is `SelfHoldCharged`; under an error of another sort the charges are right.
+pub fn charged(network: &Network, slip: Slip) -> Problem {
+    let right = Problem::of(network);
+    let misread = |arrow: &Arrow| Arrow { fixed: arrow.fixed + overcharge(network, arrow.rule, slip), ..*arrow };
+    Problem { arrows: right.arrows.iter().map(misread).collect(), ..right }
 }
 
 pub fn reply(file: &[u8], question: &Question, slip: Option<Slip>) -> Reply {
@@ -106,6 +44,9 @@ pub fn reply(file: &[u8], question: &Question, slip: Option<Slip>) -> Reply {
     };
     let network = file::read(file).expect("a question with a slack is about an accepted file");
     let rule = network.rule(question.kind, question.number).expect("a question with a slack names a rule");
+    if slip == Slip::SelfHoldMissing && rule.kind == Kind::Hold && network.paths[rule.number].is_self() {
+        return Reply::Refused(Refusal::whole_file(10));
+    }
     Reply::Slack(misjudged(&network, rule, question, slip, slack))
 }
 
@@ -129,8 +70,39 @@ fn misjudged(network: &Network, rule: Rule, question: &Question, slip: Slip, rig
             slack_in(with_paths(network, |path| Path { from: path.to, to: path.from, ..*path }))
         }
         (Slip::TimesExchanged, _) => slack_in(with_times_exchanged(network)),
-        _ => right,
+        (Slip::EqualLatencies, Kind::Hold) => {
+            let taken = if at_tail == at_head { 0 } else { network.uncertainty };
+            right + network.charge_of_hold(&network.paths[rule.number]) - taken
+        }
+        _ => right - overcharge(network, rule, slip),
     }
+}
+
+/// How much of u the error charges the rule beyond what is right.
+fn overcharge(network: &Network, rule: Rule, slip: Slip) -> i64 {
+    let u = network.uncertainty;
+    let path = match rule.kind {
+        Kind::Setup | Kind::Hold => &network.paths[rule.number],
+        Kind::Low | Kind::High => return 0,
+    };
+    match (slip, rule.kind) {
+        (Slip::SelfHoldCharged, Kind::Hold) => u - network.charge_of_hold(path),
+        (Slip::HostHoldCharged, Kind::Hold) if path.is_self() && path.to == 0 => u,
+        (Slip::SelfSetupUncharged, Kind::Setup) if path.is_self() => -u,
+        (Slip::HoldUncharged, Kind::Hold) => -network.charge_of_hold(path),
+        (Slip::WayBack, Kind::Hold) if leads_back(network, path) => -network.charge_of_hold(path),
+        _ => 0,
+    }
+}
+
+/// Whether some path leads straight back to where this one comes from.
+fn leads_back(network: &Network, path: &Path) -> bool {
+    network.paths.iter().any(|other| (other.from, other.to) == (path.to, path.from))
+}
+
+fn without_self_holds(right: Problem) -> Problem {
+    let stays = |arrow: &&Arrow| arrow.rule.kind != Kind::Hold || arrow.tail != arrow.head;
+    Problem { arrows: right.arrows.iter().filter(stays).copied().collect(), ..right }
 }
 
 fn with_times_exchanged(network: &Network) -> Network {

@@ -10,7 +10,7 @@ use second::judge::{as_it_should_be, judge, try_programs, Judge};
 use second::paper::{Kind, Network, Rule};
 use second::verdict::Verdict;
 use second::wire::{fresh_buffer, Answer, Request};
-use second::worked::worked_cases;
+use second::worked::{all_cases, worked_cases};
 use support::{accepted, all_loops, loops_allowed, output, rules_of, sum_at, tiny_networks};
 
 /// An answered or refused network with the parts of its right output.
@@ -84,7 +84,7 @@ fn the_judge_accepts_what_the_right_program_answers() {
 
 #[test]
 fn every_changed_byte_of_a_worked_output_is_refused() {
-    for case in worked_cases() {
+    for case in all_cases() {
         let sample = Sample::of(&case.draft, 9);
         let right = sample.output(&rules_of(case.witness));
         assert_eq!(sample.judge(case.number, 0, &right), Ok(()), "{}", case.name);
@@ -257,7 +257,7 @@ fn every_wrong_program_is_caught_and_the_right_one_is_clean() {
 
 #[test]
 fn every_wrong_program_fails_the_worked_case_named_for_it() {
-    use second::wrong::Slip::*;
+    use second::slip::Slip::*;
     let named = [(HoldPeriod, "A7"), (RoundDown, "D"), (Shifted, "A"), (SetupOnly, "A"), (Strict, "A6")];
     for (slip, name) in named {
         let case = worked_cases().into_iter().find(|case| case.name == name).unwrap();
@@ -269,7 +269,7 @@ fn every_wrong_program_fails_the_worked_case_named_for_it() {
 /// What RULES 12.1 says of four of the errors.
 #[test]
 fn the_wrong_programs_err_as_the_paper_says() {
-    use second::wrong::{self, Slip::*};
+    use second::{slip::Slip::*, wrong};
     let network = |name: &str| accepted(&worked_cases().iter().find(|case| case.name == name).unwrap().draft);
     let period = |name, slip| wrong::verdict(&network(name), Some(slip)).settled().1.map(|(period, _)| period);
     assert_eq!(period("D", RoundDown), Some(7));
@@ -282,7 +282,7 @@ fn the_wrong_programs_err_as_the_paper_says() {
 /// dmax alone, it is lost, and D's own 8 comes out.
 #[test]
 fn keeping_the_worst_path_by_dmax_loses_a_faster_ones_hold() {
-    use second::wrong::{self, Slip::WorstPath};
+    use second::{slip::Slip::WorstPath, wrong};
     let mut draft = worked_cases().into_iter().find(|case| case.name == "D").unwrap().draft;
     draft.paths.extend([[0, 1, 7, 8], [0, 1, 0, 3]]);
     let network = accepted(&draft);

@@ -1,4 +1,4 @@
-//! The listing program, run on the eleven worked files and on what is no network file at all.
+//! The listing program, run on the worked files and on what is no network file at all.
 
 mod support;
 
@@ -8,7 +8,7 @@ use std::process::{Command, Stdio};
 
 use second::listing::listed;
 use second::verdict::Verdict;
-use second::worked::{worked_cases, Case};
+use second::worked::{all_cases, worked_cases, Case};
 use support::{accepted, loops_allowed};
 
 /// What the listing program writes; `tools/run` builds it where it is missing.
@@ -36,8 +36,8 @@ fn verdict(case: &Case, witness: Vec<second::paper::Rule>) -> Verdict {
 }
 
 #[test]
-fn the_eleven_listings_are_the_papers_but_for_the_choice_of_loop() {
-    for case in worked_cases() {
+fn the_listings_are_the_papers_but_for_the_choice_of_loop() {
+    for case in all_cases() {
         let network = accepted(&case.draft);
         let mut allowed = loops_allowed(&network, case.number, case.period);
         if allowed.is_empty() {

@@ -71,7 +71,7 @@ fn files_are_asked_for_one_after_the_other() {
 fn what_the_paper_works_by_hand_is_asked_for_in_one_run() {
     let requests = second(&["ask", "worked"], b"").stdout;
     let answers = second(&["answer"], &requests).stdout;
-    assert_eq!(judged("worked", &requests, &answers), (Some(0), "judged 45, wrong 0".to_string()));
+    assert_eq!(judged("worked", &requests, &answers), (Some(0), "judged 73, wrong 0".to_string()));
 }
 
 #[test]
@@ -88,20 +88,19 @@ fn answers_cut_short_or_too_long_fail() {
 
 #[test]
 fn every_wrong_program_fails_the_judge() {
-    let of_schedules = ["hold-period", "round-down", "shifted", "worst-path", "setup-only", "strict"];
-    let of_slacks = [
-        "hold-period",
-        "hold-turned",
-        "cut-off",
-        "one-off",
-        "low-tail",
-        "u-sign",
-        "delays-exchanged",
-        "sender-charged",
+    let of_schedules = "hold-period round-down shifted worst-path setup-only strict";
+    let of_slacks =
+        "hold-period hold-turned cut-off one-off low-tail u-sign delays-exchanged sender-charged times-exchanged";
+    let of_charges =
+        "self-hold-charged host-hold-charged self-setup-uncharged hold-uncharged way-back self-hold-missing";
+    let streams = [
+        ("tiny", of_schedules.to_string()),
+        ("toggles", of_charges.to_string()),
+        ("questions", format!("{of_slacks} {of_charges} equal-latencies")),
     ];
-    for (shape, names) in [("tiny", &of_schedules[..]), ("questions", &of_slacks[..])] {
+    for (shape, names) in streams {
         let requests = second(&["ask", "7", "400", shape], b"").stdout;
-        for name in names {
+        for name in names.split(' ') {
             let answers = second(&["wrong", name], &requests).stdout;
             let (code, last) = judged(&format!("{shape}-{name}"), &requests, &answers);
             assert_eq!(code, Some(1), "{name}: {last}");
@@ -115,7 +114,7 @@ fn wrongs_reports_every_program() {
     let output = second(&["wrongs", "8", "2000"], b"");
     let text = String::from_utf8(output.stdout).unwrap();
     assert_eq!(output.status.code(), Some(0), "{text}");
-    assert_eq!(text.lines().filter(|line| line.ends_with(", as it should be")).count(), 15, "{text}");
+    assert_eq!(text.lines().filter(|line| line.ends_with(", as it should be")).count(), 22, "{text}");
     // Without a single request no wrong program can be caught, and that must not pass for success.
     assert_eq!(second(&["wrongs", "8", "0"], b"").status.code(), Some(1));
 }

@@ -12,34 +12,11 @@ use second::gen::Source;
 use second::judge::{as_it_should_be, judge, try_programs};
 use second::paper::{Kind, DELAY_MOST, LATENCY_MOST, MARGIN_MOST, PERIOD_MOST, UNCERTAINTY_MOST};
 use second::question::{reply, Question, Reply};
+use second::slip::Slip;
 use second::wire::Request;
-use second::worked::{refused_questions, slack_rows, worked_cases, SlackRow};
-use second::wrong::{self, Slip};
-use support::{accepted, all_loops, setups_in, sum_at, tiny_networks};
-
-/// The cells of the table that stands below a paragraph of the rules, without its two lines of head.
-fn table(paragraph: &str) -> Vec<Vec<String>> {
-    let rules = concat!(env!("CARGO_MANIFEST_DIR"), "/../docs/RULES.md");
-    let text = std::fs::read_to_string(rules).unwrap();
-    let (_, after) = text.split_once(&format!("**{paragraph}**")).expect("the rules have the paragraph");
-    let lines = after.lines().skip_while(|line| !line.starts_with('|')).take_while(|line| line.starts_with('|'));
-    lines.skip(2).map(|line| line.split('|').map(|cell| cell.trim().to_string()).collect()).collect()
-}
-
-/// A number as the rules write it: `-3,109,999`, and `M` for a million.
-fn number(cell: &str) -> i64 {
-    let digits = cell.replace(',', "");
-    match digits.strip_suffix('M') {
-        Some("") => 1_000_000,
-        Some("-") => -1_000_000,
-        Some(count) => count.parse::<i64>().unwrap() * 1_000_000,
-        None => digits.parse().unwrap(),
-    }
-}
-
-fn name_of(question: &Question) -> String {
-    format!("{} {}", Kind::numbered(question.kind).unwrap().name(), question.number)
-}
+use second::worked::{all_slack_rows, refused_questions, slack_rows, worked_cases, SlackRow};
+use second::wrong;
+use support::{accepted, all_loops, held_to_the_page, name_of, number, setups_in, sum_at, table, tiny_networks};
 
 fn request_of(row: &SlackRow) -> Request {
     Request::Question { question: row.question, file: row.draft().file() }
@@ -47,15 +24,7 @@ fn request_of(row: &SlackRow) -> Request {
 
 #[test]
 fn the_rows_are_those_of_the_rules_and_the_replies_are_theirs() {
-    let (rows, written) = (slack_rows(), table("15.9"));
-    assert_eq!((rows.len(), written.len()), (27, 27));
-    for (row, cells) in rows.iter().zip(written) {
-        let Question { period, at_tail, at_head, .. } = row.question;
-        let numbers = [i64::from(period), i64::from(at_tail), i64::from(at_head), row.slack];
-        assert_eq!((row.network, name_of(&row.question)), (&cells[1][..], cells[2].clone()));
-        assert_eq!(numbers.to_vec(), cells[3..7].iter().map(|cell| number(cell)).collect::<Vec<_>>(), "{cells:?}");
-        assert_eq!(reply(&row.draft().file(), &row.question), Reply::Slack(row.slack), "{cells:?}");
-    }
+    held_to_the_page(&slack_rows(), "15.9", 27);
 }
 
 #[test]
@@ -83,7 +52,7 @@ fn the_ends_are_sums_of_the_limits_and_the_rows_reach_them() {
         assert_eq!((kind.name(), smallest, greatest), (&cells[1][..], number(&cells[2]), number(&cells[3])));
         for end in [smallest, greatest] {
             let at_end = |row: &SlackRow| row.question.kind == kind.number() && row.slack == end;
-            assert_eq!(slack_rows().into_iter().filter(at_end).count(), 1, "{} {end}", kind.name());
+            assert_eq!(all_slack_rows().into_iter().filter(at_end).count(), 1, "{} {end}", kind.name());
         }
     }
 }
@@ -132,7 +101,7 @@ fn the_judge_refuses_every_other_slack() {
     let mut refused = 0;
     let mut source = Source::new(33, "questions").unwrap();
     let seeded = (0..1_500).map(|_| source.request()).collect::<Vec<_>>();
-    for request in slack_rows().iter().map(request_of).chain(seeded) {
+    for request in all_slack_rows().iter().map(request_of).chain(seeded) {
         let Request::Question { question, file } = &request else { panic!("no question: {request:?}") };
         let Reply::Slack(right) = reply(file, question) else { continue };
         let right = right as i32;
@@ -166,7 +135,7 @@ fn a_refusal_carries_no_slack() {
 #[test]
 fn a_stream_with_a_slack_too_many_or_too_few_is_not_clean() {
     let refused = refused_questions().into_iter().map(|(request, _, _)| request);
-    let requests: Vec<Request> = refused.chain(slack_rows().iter().map(request_of)).collect();
+    let requests: Vec<Request> = refused.chain(all_slack_rows().iter().map(request_of)).collect();
     let (mut asked, mut answers) = (Vec::new(), Vec::new());
     for request in &requests {
         request.write(&mut asked).unwrap();

@@ -1,4 +1,4 @@
-//! The stored run of the program under examination: its requests are the eleven worked files, and its answers are the paper's.
+//! The stored run of the program under examination: its requests are the worked files, and its answers are the paper's.
 
 mod support;
 
@@ -6,7 +6,7 @@ use std::fs;
 use std::path::PathBuf;
 
 use second::wire::{Answer, Request};
-use second::worked::{worked_cases, Case};
+use second::worked::{all_cases, Case};
 use support::{accepted, loops_allowed, output};
 
 fn stored(name: &str) -> Vec<u8> {
@@ -19,9 +19,9 @@ fn request(case: &Case) -> Request {
 }
 
 #[test]
-fn the_requests_are_the_eleven_files() {
+fn the_requests_are_the_worked_files() {
     let mut due = Vec::new();
-    worked_cases().iter().for_each(|case| request(case).write(&mut due).unwrap());
+    all_cases().iter().for_each(|case| request(case).write(&mut due).unwrap());
     assert!(stored("stdin") == due);
 }
 
@@ -29,7 +29,7 @@ fn the_requests_are_the_eleven_files() {
 fn the_answers_are_the_papers() {
     let bytes = stored("stdout");
     let mut input = &bytes[..];
-    for case in worked_cases() {
+    for case in all_cases() {
         let Answer::Solved { number, place, buffer } = request(&case).read_answer(&mut input).unwrap() else {
             panic!("{}: a question's answer", case.name);
         };

@@ -4,7 +4,7 @@ use second::check::judge_solve;
 use second::draft::Draft;
 use second::question::Question;
 use second::wire::{fresh_buffer, Answer, Request};
-use second::worked::worked_cases;
+use second::worked::{all_cases, worked_cases};
 
 fn written(write: impl Fn(&mut Vec<u8>) -> std::io::Result<()>) -> Vec<u8> {
     let mut bytes = Vec::new();
@@ -79,7 +79,7 @@ fn one_byte_short_is_refused_with_7_whatever_the_verdict_would_be() {
         let buffer = fresh_buffer(room);
         (0..=9).filter(|&number| judge_solve(&draft.file(), &buffer, number, 0, &buffer).is_ok()).collect::<Vec<_>>()
     };
-    for case in worked_cases() {
+    for case in all_cases() {
         let exact = 14 + 16 * case.draft.registers.len() as i32;
         for room in [0, 13, 14, exact - 1] {
             assert_eq!(number_due(&case.draft, room), [7], "{} in {room} bytes", case.name);

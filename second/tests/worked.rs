@@ -1,4 +1,4 @@
-//! The eleven networks worked by hand.
+//! The networks worked by hand: the eleven, and those of the requests.
 
 mod support;
 
@@ -8,7 +8,7 @@ use second::check::judge_solve;
 use second::listing::listing;
 use second::verdict::Verdict;
 use second::wire::{fresh_buffer, Answer, Request};
-use second::worked::{worked_cases, Case};
+use second::worked::{all_cases, worked_cases, Case};
 use second::{fast, solver};
 use support::{accepted, loops_allowed, output, rules_of};
 
@@ -30,7 +30,7 @@ fn there_are_eleven_and_a_is_130_bytes_long() {
 
 #[test]
 fn both_solvers_give_the_papers_number_period_and_latencies() {
-    for case in worked_cases() {
+    for case in all_cases() {
         let problem = Problem::of(&accepted(&case.draft));
         for verdict in [solver::solve(&problem), fast::solve(&problem)] {
             assert!(expected(&case, &verdict), "{}: {verdict:?}", case.name);
@@ -40,7 +40,7 @@ fn both_solvers_give_the_papers_number_period_and_latencies() {
 
 #[test]
 fn both_solvers_show_the_papers_loop() {
-    for case in worked_cases() {
+    for case in all_cases() {
         let network = accepted(&case.draft);
         let due = rules_of(case.witness);
         let allowed = loops_allowed(&network, case.number, case.period);
@@ -57,7 +57,7 @@ fn both_solvers_show_the_papers_loop() {
 
 #[test]
 fn the_judge_accepts_the_papers_own_outputs() {
-    for case in worked_cases() {
+    for case in all_cases() {
         let room = case.draft.room();
         let after = output(room, case.period, case.latencies, &rules_of(case.witness));
         let judged = judge_solve(&case.draft.file(), &fresh_buffer(room), case.number, 0, &after);
@@ -67,7 +67,7 @@ fn the_judge_accepts_the_papers_own_outputs() {
 
 #[test]
 fn the_answers_bytes_are_the_papers_but_for_the_choice_of_loop() {
-    for case in worked_cases() {
+    for case in all_cases() {
         let (room, file) = (case.draft.room(), case.draft.file());
         let network = accepted(&case.draft);
         let Answer::Solved { number, place, buffer } = answer(&Request::Solve { room, file }, None) else {
@@ -85,11 +85,13 @@ fn the_answers_bytes_are_the_papers_but_for_the_choice_of_loop() {
 
 #[test]
 fn listings_are_as_the_paper_prints_them() {
-    let listed = |name: &str| listing(&worked_cases().iter().find(|case| case.name == name).unwrap().draft.file());
+    let listed = |name: &str| listing(&all_cases().iter().find(|case| case.name == name).unwrap().draft.file());
     assert_eq!(listed("A"), "period 9\nlatency 0 0\nlatency 1 1\nlatency 2 -1\nloop 8\nsetup 0\nhold 0\n");
     assert_eq!(listed("A2"), "period 9\nlatency 0 0\nlatency 1 1\nlatency 2 -1\n");
     assert_eq!(listed("A4"), "refused 9 0\nloop 8\nsetup 0\nhold 0\n");
     assert_eq!(listed("A7"), "refused 8 0\nloop 100\nhold 2\nhold 1\nhold 0\n");
     assert_eq!(listed("E"), "period 9\nlatency 0 0\nlatency 1 1\nloop 8\nsetup 0\nhigh 1\n");
+    assert_eq!(listed("T"), "period 10\nlatency 0 0\nlatency 1 -10\nloop 9\nsetup 0\n");
+    assert_eq!(listed("T5"), "refused 8 0\nloop 100\nhold 0\n");
     assert_eq!(listing(b"NW"), "refused 1 0\n");
 }

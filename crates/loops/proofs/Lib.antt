@@ -30,5 +30,7 @@ pub mod Greatest
 pub mod Outcomes
 pub mod Rules
 pub mod NeedLaws
+pub mod Charged
+pub mod Unchanged
 pub mod Raises
 pub mod Theorems

@@ -32,7 +32,7 @@ pub struct Register {
     pub high: Latency,
 }
 
-// The uncertainty is what the path's rules are charged.
+// The uncertainty is that of which the path's rules are charged: all of it in setup, and in hold what `rules::charged` says.
 pub struct Path {
     pub from: usize,
     pub to: usize,

@@ -1,5 +1,6 @@
 -- Laws of the definitions. Callers read Legal for what an accepted file says, and the laws of rules, loops, tables, numbers, slacks and bytes.
 pub mod Legal
+pub mod ChargeLaws
 pub mod RuleLaws
 pub mod LoopLaws
 pub mod ListedLaws

@@ -1,8 +1,8 @@
 -- What a loop asks of the period: with setup rules it contradicts itself exactly below its need; without any it contradicts itself at
 -- every period or at none. And what it does to schedules: where it contradicts itself, there is none. Rests on `RuleLaws`, and on
 -- rounding up (`whole`).
-use mathlib.Core.Path.{_≡_, refl, sym, ap}
-use mathlib.Core.Logic.{_↔_, _≢_}
+use mathlib.Core.Path.{_≡_, refl, sym, ap, _∙_}
+use mathlib.Core.Logic.{_↔_, _≢_, _⊎_, inl, inr}
 use mathlib.Core.List.{List, [], _∷_}
 use Prim.Native.Nat.{ℕ, zero, suc, _+_, _*_, _≤_, _<_}
 use native.Mathlib.Omega.{arith}
@@ -63,6 +63,25 @@ module _ {E : Type 0} (tail head : E → ℕ) where
   pub loop-passes-once : (l : List E) → Loop tail head l → (d : E) (i j : ℕ) → i < j → j < length l → tail (getD l j d) ≢ tail (getD l i d)
   loop-passes-once [] o d i j h k = absurd o
   loop-passes-once (e ∷ l) o d i j h k = once-apart (e ∷ l) (o .1) d i j h k
+
+  -- an arrow that does not lead back to the register it leaves
+  abbrev pub Apart : E → Type 0
+  Apart e = tail e ≢ head e
+
+  -- Along a chain that ends at t, where no arrow leaves t, none leads back: it reaches the register that the next one leaves, or t.
+  chain-apart : (t : ℕ) (u : ℕ) (l : List E) → Chain tail head u l t → All (λ e. tail e ≢ t) l → Once tail head l → All Apart l
+  chain-apart t u [] c a o = tt
+  chain-apart t u (e ∷ []) c a o = ((λ self. a .0 (self ∙ c .1)), tt)
+  chain-apart t u (e ∷ f ∷ l) c a o =
+      ((λ self. o .0 .0 (c .1 .0 ∙ sym self)), chain-apart t (head e) (f ∷ l) (c .1) (a .1) (o .1))
+
+  -- So an arrow that leads back is a loop by itself, or is on none.
+  pub alone-or-apart : (l : List E) → Loop tail head l → ((e : E) × (l ≡ e ∷ [])) ⊎ All Apart l
+  alone-or-apart [] o = absurd o
+  alone-or-apart (e ∷ []) o = inl (e, refl)
+  alone-or-apart (e ∷ f ∷ l) o =
+      let first : Apart e = λ self. o .1 .0 .0 (o .0 .1 .0 ∙ sym self) in
+      inr (first, chain-apart (tail e) (head e) (f ∷ l) (o .0 .1) (o .1 .0) (o .1 .1))
 
 -- Of a sum b that stands k · P above a: a is above 0 exactly where P is below b / k, rounded up. For k · P < b ≤ q · k puts P below q;
 -- and where a is at most 0, b is at most P · k, so that P is enough.

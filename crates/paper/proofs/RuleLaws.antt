@@ -7,8 +7,9 @@ use lib.IntN.{ℤ, pos, negℤ, _+ℤ_, _-ℤ_}
 use lib.Signed.{_≤ℤ_}
 use Rattle.whole.proofs.Lin.{lin, plus, minus, negs}
 use Rattle.paper.specs.Network.{Network}
-use Rattle.paper.specs.Rules.{Rule, Setup, Hold, Low, High, Holds, HoldsAs, _≥ℤ_, tail, head, base, amount, slack}
+use Rattle.paper.specs.Rules.{Rule, Setup, Hold, Low, High, Holds, HoldsAs, _≥ℤ_, charged, tail, head, base, amount, slack}
 use Rattle.paper.specs.Schedule.{Schedule}
+use Rattle.paper.proofs.ChargeLaws.{self-path-uncharged}
 
 -- a difference is at least 0 exactly when what is taken away is at most what it is taken from
 difference : (a b : ℤ) → (pos 0 ≤ℤ (b -ℤ a)) ↔ (a ≤ℤ b)
@@ -35,6 +36,13 @@ taken-zero b c = omega (lin, plus (pos 0) c, negs c, negs (pos 0 +ℤ c))
 from-zero : (a c : ℤ) → c -ℤ a ≡ pos 0 -ℤ (a +ℤ negℤ c)
 from-zero a c = omega (lin, negs a, negs c, plus a (negℤ c), negs (a +ℤ negℤ c))
 
+-- what is added on both sides tells nothing, and 0 adds nothing
+on-both-sides : (t a b : ℤ) → ((t +ℤ a) ≤ℤ (t +ℤ b)) ↔ (a ≤ℤ b)
+on-both-sides t a b = ((λ h. omega lin), (λ h. omega lin))
+
+pub nothing-more : (a : ℤ) → a +ℤ pos 0 ≡ a
+nothing-more a = omega lin
+
 -- the latencies at a rule's two ends as the rule reads them: where it does not read the host's, that is 0
 abbrev pub tailRead : Rule → ℤ → ℤ
 tailRead (Setup p) a = a
@@ -52,7 +60,7 @@ module _ (N : Network) where
   -- a rule is met by as much as the latency at its head lies above the latency at its tail plus the amount
   pub slack-is : (P : ℕ) (r : Rule) (a b : ℤ) → slack N P r a b ≡ headRead r b -ℤ (tailRead r a +ℤ amount N P r)
   slack-is P (Setup p) a b = rw (grouped3 a) (taken a b (base N (Setup p)) (pos P))
-  slack-is P (Hold p) a b = rw (grouped2 a) (taken a b (N .hold (N .to p) +ℤ N .uncertainty p) (N .dmin p))
+  slack-is P (Hold p) a b = rw (grouped2 a) (taken a b (N .hold (N .to p) +ℤ charged N p) (N .dmin p))
   slack-is P (Low i) a b = taken-zero b (N .low i)
   slack-is P (High i) a b = from-zero a (N .high i)
 
@@ -81,9 +89,21 @@ module _ (N : Network) where
   arrow-is-rule P x (Setup p) host =
       rw (grouped3 (x (N .from p))) (moved (x (N .from p)) (base N (Setup p)) (x (N .to p)) (pos P))
   arrow-is-rule P x (Hold p) host =
-      rw (grouped2 (x (N .to p))) (moved (x (N .to p)) (N .hold (N .to p) +ℤ N .uncertainty p) (x (N .from p)) (N .dmin p))
+      rw (grouped2 (x (N .to p))) (moved (x (N .to p)) (N .hold (N .to p) +ℤ charged N p) (x (N .from p)) (N .dmin p))
   arrow-is-rule P x (Low i) host = ((λ h. omega lin), (λ h. omega lin))
   arrow-is-rule P x (High i) host = ((λ h. omega (lin, negs (N .high i))), (λ h. omega (lin, negs (N .high i))))
+
+  -- A self path's register has one latency, which stands on both sides of its rules. RULES 16.6: "there the rule is met exactly when dmin is at
+  -- least the hold time."
+  pub self-hold-iff : (P : ℕ) (x : ℕ → ℤ) (p : ℕ) → N .from p ≡ N .to p → Holds N P x (Hold p) ↔ (N .hold (N .to p) ≤ℤ N .dmin p)
+  self-hold-iff P x p self =
+      rw (self-path-uncharged N p self, self, nothing-more (x (N .to p) +ℤ N .hold (N .to p))) (on-both-sides (x (N .to p)) (N .hold (N .to p)) (N .dmin p))
+
+  -- RULES 16.3: "it is charged u on every path, on a self path too."
+  pub self-setup-iff : (P : ℕ) (x : ℕ → ℤ) (p : ℕ) → N .from p ≡ N .to p
+      → Holds N P x (Setup p) ↔ ((N .dmax p +ℤ N .setup (N .to p) +ℤ N .uncertainty p) ≤ℤ pos P)
+  self-setup-iff P x p self =
+      rw (self, grouped3 (x (N .to p))) (on-both-sides (x (N .to p)) (base N (Setup p)) (pos P))
 
   -- RULES 2.7: "The period stands in setup rules alone.": it is taken off their amounts, so a longer one raises no amount
   pub amount-falls : (P Q : ℕ) (r : Rule) → P ≤ Q → amount N Q r ≤ℤ amount N P r

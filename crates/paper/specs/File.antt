@@ -97,7 +97,7 @@ module _ (f : List ℕ) where
       && leZ (pos 0) (numberAt f (pathPlace p + 10))
       && within (numberAt f (pathPlace p + 10)) mostDelay (numberAt f (pathPlace p + 14))
 
-  -- the network that the file means; every path is charged the header's u (RULES 2.8)
+  -- the network that the file means; every path has the header's u, and `Rules.antt` says what its rules are charged of it
   unfoldable pub networkOf : Network
   networkOf =
       record {

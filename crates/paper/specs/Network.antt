@@ -14,7 +14,7 @@ pub record Network : Type 0 where
   pub hold : ℕ → ℤ
   pub low : ℕ → ℤ
   pub high : ℕ → ℤ
-  -- of a path: its ends, its delays, and the clock uncertainty that its rules are charged
+  -- of a path: its ends, its delays, and the clock uncertainty of which its rules are charged
   pub from : ℕ → ℕ
   pub to : ℕ → ℕ
   pub dmin : ℕ → ℤ

@@ -3,10 +3,12 @@
 -- RULES 2.2:
 -- | kind | kind's number | rule | arrow from, to | amount |
 -- | setup, of a path from i to j | 0 | x_i + dmax + s_j + u <= x_j + P | i, j | dmax + s_j + u - P |
--- | hold, of a path from i to j | 1 | x_i + dmin >= x_j + h_j + u | j, i | h_j + u - dmin |
+-- | hold, of a path from i to j | 1 | x_i + dmin >= x_j + h_j + c | j, i | h_j + c - dmin |
 -- | low, of a register i from 1 up | 2 | x_i >= low_i | 0, i | low_i |
 -- | high, of a register i from 1 up | 3 | x_i <= high_i | i, 0 | -high_i |
 use Prim.Native.Nat.{ℕ, _<_}
+use mathlib.Core.Bool.{cond}
+use lib.Dec.{eqb}
 use lib.IntN.{ℤ, pos, negℤ, _+ℤ_, _-ℤ_}
 use lib.Signed.{_≤ℤ_}
 use Rattle.paper.specs.Network.{Network}
@@ -31,6 +33,11 @@ number (Hold p) = p
 number (Low i) = i
 number (High i) = i
 
+-- What the hold rule of a path is charged of its uncertainty u, by the path's two ends. RULES 16.2: "The hold rule of a self path is charged
+-- nothing of u. The hold rule of every other path is charged u, once."
+abbrev pub charge : (from to : ℕ) (u : ℤ) → ℤ
+charge from to u = cond (eqb from to) (pos 0) u
+
 infix 50 _≥ℤ_
 abbrev pub _≥ℤ_ : ℤ → ℤ → Type 0
 a ≥ℤ b = b ≤ℤ a
@@ -43,12 +50,16 @@ module _ (N : Network) where
   Exists (Low i) = (0 < i) × (i < N .registers)
   Exists (High i) = (0 < i) × (i < N .registers)
 
+  -- the same of path p: the table's c
+  abbrev pub charged : ℕ → ℤ
+  charged p = charge (N .from p) (N .to p) (N .uncertainty p)
+
   -- the rule, as the table's third column writes it
   abbrev pub Holds : ℕ → (ℕ → ℤ) → Rule → Type 0
   Holds P x (Setup p) =
       (x (N .from p) +ℤ N .dmax p +ℤ N .setup (N .to p) +ℤ N .uncertainty p) ≤ℤ (x (N .to p) +ℤ pos P)
   Holds P x (Hold p) =
-      (x (N .from p) +ℤ N .dmin p) ≥ℤ (x (N .to p) +ℤ N .hold (N .to p) +ℤ N .uncertainty p)
+      (x (N .from p) +ℤ N .dmin p) ≥ℤ (x (N .to p) +ℤ N .hold (N .to p) +ℤ charged p)
   Holds P x (Low i) = x i ≥ℤ N .low i
   Holds P x (High i) = x i ≤ℤ N .high i
 
@@ -56,12 +67,12 @@ module _ (N : Network) where
   --
   -- RULES 8.5:
   -- | setup | t + dmax + s_j + u <= v + P |
-  -- | hold  | v + dmin >= t + h_j + u     |
+  -- | hold  | v + dmin >= t + h_j + c     |
   -- | low   | v >= low_i                  |
   -- | high  | t <= high_i                 |
   abbrev pub HoldsAs : ℕ → Rule → ℤ → ℤ → Type 0
   HoldsAs P (Setup p) t v = (t +ℤ N .dmax p +ℤ N .setup (N .to p) +ℤ N .uncertainty p) ≤ℤ (v +ℤ pos P)
-  HoldsAs P (Hold p) t v = (v +ℤ N .dmin p) ≥ℤ (t +ℤ N .hold (N .to p) +ℤ N .uncertainty p)
+  HoldsAs P (Hold p) t v = (v +ℤ N .dmin p) ≥ℤ (t +ℤ N .hold (N .to p) +ℤ charged p)
   HoldsAs P (Low i) t v = v ≥ℤ N .low i
   HoldsAs P (High i) t v = t ≤ℤ N .high i
 
@@ -81,7 +92,7 @@ module _ (N : Network) where
   -- its amount without the P term, and its amount
   abbrev pub base : Rule → ℤ
   base (Setup p) = N .dmax p +ℤ N .setup (N .to p) +ℤ N .uncertainty p
-  base (Hold p) = N .hold (N .to p) +ℤ N .uncertainty p -ℤ N .dmin p
+  base (Hold p) = N .hold (N .to p) +ℤ charged p -ℤ N .dmin p
   base (Low i) = N .low i
   base (High i) = negℤ (N .high i)
 
@@ -95,12 +106,12 @@ module _ (N : Network) where
   --
   -- RULES 15.2:
   -- | setup | (v + P) - (t + dmax + s_j + u) |
-  -- | hold  | (v + dmin) - (t + h_j + u)     |
+  -- | hold  | (v + dmin) - (t + h_j + c)     |
   -- | low   | v - low_i                      |
   -- | high  | high_i - t                     |
   abbrev pub slack : ℕ → Rule → ℤ → ℤ → ℤ
   slack P (Setup p) t v = (v +ℤ pos P) -ℤ (t +ℤ N .dmax p +ℤ N .setup (N .to p) +ℤ N .uncertainty p)
-  slack P (Hold p) t v = (v +ℤ N .dmin p) -ℤ (t +ℤ N .hold (N .to p) +ℤ N .uncertainty p)
+  slack P (Hold p) t v = (v +ℤ N .dmin p) -ℤ (t +ℤ N .hold (N .to p) +ℤ charged p)
   slack P (Low i) t v = v -ℤ N .low i
   slack P (High i) t v = N .high i -ℤ t
 

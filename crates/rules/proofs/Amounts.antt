@@ -4,8 +4,9 @@ use Prim.Native.Nat.{ℕ, _≤_}
 use lib.IntN.{ℤ, pos, negsuc, _+ℤ_, _-ℤ_}
 use Rattle.whole.proofs.Lin.{lin, plus, negs}
 use Rattle.paper.specs.Network.{Network}
-use Rattle.paper.specs.Rules.{Rule, Setup, Hold, Low, High, Exists, base, amount}
+use Rattle.paper.specs.Rules.{Rule, Setup, Hold, Low, High, Exists, charged, base, amount}
 use Rattle.paper.proofs.Legal.{Between, Legal}
+use Rattle.paper.proofs.ChargeLaws.{charged-between}
 use Rattle.rules.specs.Amounts.{Small}
 use Rattle.rules.proofs.Ranges.{small-between}
 
@@ -28,10 +29,10 @@ module _ {N : Network} (legal : Legal N) where
       record { from = omega lin; to = omega lin }
   base-between (Hold p) h =
       let s = legal .hold (N .to p) (legal .to p h) in
-      let u = legal .uncertainty p h in
+      let u = charged-between legal p h in
       let d = legal .dmin p h in
       let e = legal .dmax p h in
-      let x = plus (N .hold (N .to p)) (N .uncertainty p) in
+      let x = plus (N .hold (N .to p)) (charged N p) in
       let y = negs (N .dmin p) in
       record { from = omega lin; to = omega lin }
   base-between (Low i) h = let l = legal .low i (h .1) in record { from = omega lin; to = omega lin }

@@ -6,7 +6,9 @@ use lib.Signed.{_≤ℤ_}
 use mir.Syntax.{w32}
 use mir.Val.{SFits}
 use Rattle.whole.proofs.Lin.{lin}
+use Rattle.paper.specs.Rules.{charge}
 use Rattle.paper.proofs.Legal.{Between}
+use Rattle.paper.proofs.ChargeLaws.{charge-between}
 use Rattle.network.specs.declared.Register.{Register}
 use Rattle.network.specs.declared.Path.{Path}
 use Rattle.network.proofs.Ranges.{RegisterRanges, PathRanges}
@@ -17,7 +19,11 @@ use Rattle.rules.proofs.Sums.{small, difference-fits}
 pub small-between : {a b z : ℤ} → negsuc 16777215 ≤ℤ a → b ≤ℤ pos 16777216 → Between a b z → Small z
 small-between l m h = record { from = omega lin; to = omega lin }
 
--- and the difference of two such numbers fits
+-- what a hold rule is charged of a small uncertainty
+pub small-charge : {u : ℤ} (from to : ℕ) → Small u → Small (charge from to u)
+small-charge from to s = charge-between from to (omega lin) (omega lin) s
+
+-- the difference of two small numbers fits
 pub small-less : {a b : ℤ} → Small a → Small b → SFits w32 (a -ℤ b)
 small-less a b = difference-fits (omega arith) (small a) (small b)
 

@@ -4,7 +4,7 @@ ghost use mathlib.Core.Path.{_≡_};
 ghost use lib.IntN.{_+ℤ_, _-ℤ_};
 ghost use mir.Syntax.{w32};
 ghost use mir.Val.{SFits};
-ghost use Rattle.paper.specs.Rules.{Setup, Hold, Low, High};
+ghost use Rattle.paper.specs.Rules.{Setup, Hold, Low, High, charge};
 ghost use Rattle.rules.specs.Amounts.{SmallRegister, SmallEnds, SmallArrow, OfPath, OfRegister};
 use network::Path;
 use network::Register;
@@ -21,14 +21,25 @@ pub fn setup(road: Path, receiver: Register) -> Delay
     asked.plus(road.uncertainty)
 }
 
-// h_j + u - dmin, by what the receiver asks.
+// c: a path from a register to itself is timed by one edge at one clock pin, which cannot be early and late at once.
+fn charged(road: Path) -> Delay
+    ensures { λ c. ⌜ c .0 ≡ charge (road .from) (road .to) (road .uncertainty .0) ⌝ }
+{
+    if road.from == road.to {
+        Delay(0)
+    } else {
+        road.uncertainty
+    }
+}
+
+// h_j + c - dmin, by what the receiver asks.
 pub fn hold(road: Path, receiver: Register) -> Delay
     requires { ⌜ SmallEnds road receiver ⌝ }
     ensures { λ d. ⌜ OfPath Hold road receiver (d .0) ⌝ }
 {
     let asked = receiver.hold;
-    let charged = asked.plus(road.uncertainty);
-    charged.less(road.dmin)
+    let held = asked.plus(charged(road));
+    held.less(road.dmin)
 }
 
 // low_i: from the host's instant to the earliest.

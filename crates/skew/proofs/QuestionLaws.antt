@@ -1,6 +1,6 @@
 -- What the contract of the rule question says of a file: when each number is given, that the slack which is told is the named rule's, and that
 -- it is yes exactly when the rule's inequality holds. Each is what `Asking` says of the file's network and of the rows of its faults. Rests on `Asking`.
-use mathlib.Core.Path.{_≡_, refl}
+use mathlib.Core.Path.{_≡_, refl, sym, _∙_}
 use mathlib.Core.Logic.{_↔_, _⊎_}
 use mathlib.Core.List.{List}
 use Prim.Native.Nat.{ℕ, _<_}
@@ -20,6 +20,8 @@ use Rattle.paper.specs.Question.{Question, asked, Asked, InRange, slackAsked, F
 use Rattle.paper.specs.Outcome.{Judged}
 use Rattle.paper.proofs.TableLaws.{faults-one-place, faults-numbered}
 use Rattle.paper.proofs.NumberLaws.{fault-numbers}
+use Rattle.paper.proofs.RuleLaws.{nothing-more}
+use Rattle.paper.proofs.ChargeLaws.{self-path-uncharged, other-path-charged}
 use Rattle.skew.proofs.Asking as asking
 
 module _ (f : List ℕ) (q : Question) (r : Rule) (o : Reply) (accepted : Accepted f) (in-range : InRange (networkOf f) q) (asked-for : Asked (networkOf f) q r) (answers : FileAnswers f q o) where
@@ -75,11 +77,22 @@ module _ (f : List ℕ) (accepted : Accepted f) (p i : ℕ) (path : p < networkO
   self-setup-as-given in-range answers =
       rw (← reaches) (question-slack f _ (Setup p) o accepted in-range (record { of-kind = refl; of-number = refl; exists = path }) answers)
 
-  -- a at the tail of the hold rule, b at its head
+  -- a at the tail of the hold rule, b at its head. RULES 16.5: "A self path's hold rule is charged nothing where they differ too"
   pub self-hold-as-given : InRange N (asked (pos P) (pos 1) (pos p) a b) → FileAnswers f (asked (pos P) (pos 1) (pos p) a b) o
-      → o ≡ withSlack ((b +ℤ N .dmin p) -ℤ (a +ℤ N .hold i +ℤ N .uncertainty p))
+      → o ≡ withSlack ((b +ℤ N .dmin p) -ℤ (a +ℤ N .hold i))
   self-hold-as-given in-range answers =
-      rw (← reaches) (question-slack f _ (Hold p) o accepted in-range (record { of-kind = refl; of-number = refl; exists = path }) answers)
+      let told = question-slack f _ (Hold p) o accepted in-range (record { of-kind = refl; of-number = refl; exists = path }) answers in
+      rw (self-path-uncharged N p (leaves ∙ sym reaches), reaches, nothing-more (a +ℤ N .hold i)) at told
+
+-- RULES 16.5: "that of any other path is charged u where they are equal": whatever the latencies are
+pub other-hold-as-given : (f : List ℕ) → Accepted f → (p : ℕ) → p < networkOf f .paths → (networkOf f .from p ≡ networkOf f .to p → ⊥)
+    → (P : ℕ) (a b : ℤ) (o : Reply)
+    → InRange (networkOf f) (asked (pos P) (pos 1) (pos p) a b)
+    → FileAnswers f (asked (pos P) (pos 1) (pos p) a b) o
+    → o ≡ withSlack ((b +ℤ networkOf f .dmin p) -ℤ (a +ℤ networkOf f .hold (networkOf f .to p) +ℤ networkOf f .uncertainty p))
+other-hold-as-given f accepted p path apart P a b o in-range answers =
+    let told = question-slack f _ (Hold p) o accepted in-range (record { of-kind = refl; of-number = refl; exists = path }) answers in
+    rw (other-path-charged (networkOf f) p apart) at told
 
 -- RULES 8.7: "Low and high rules do not read it: it is the latency at the tail of low, and at the head of high.": two questions in range that differ
 -- in the host's latency alone have one reply, whether or not the file is accepted

@@ -20,6 +20,7 @@ use Rattle.paper.specs.Refusals.{Accepted}
 use Rattle.paper.specs.Question.{Question, Asked, InRange, slackAsked, FileAnswers}
 use Rattle.paper.specs.Outcome.{FileResult}
 use Rattle.paper.proofs.Legal.{Legal, accepted-legal, within-is, natural-is}
+use Rattle.paper.proofs.ChargeLaws.{charged-between}
 use Rattle.paper.proofs.SlackLaws.{slacks-below, slacks-from}
 use Rattle.worked.specs.Slacks.{SlackCase, ends}
 use Rattle.skew.specs.Asks.{leastSlack, mostSlack}
@@ -52,7 +53,7 @@ module _ (N : Network) (l : Legal N) (P : ℕ) (period : Period (pos P)) (t v : 
   slack-between (Setup p) e =
       difference (sum head period) (sum (sum (sum tail (dmax-between p e)) (l .setup (N .to p) (l .to p e))) (l .uncertainty p e))
   slack-between (Hold p) e =
-      difference (sum head (dmin-between p e)) (sum (sum tail (l .hold (N .to p) (l .to p e))) (l .uncertainty p e))
+      difference (sum head (dmin-between p e)) (sum (sum tail (l .hold (N .to p) (l .to p e))) (charged-between l p e))
   slack-between (Low i) e = difference head (l .low i (e .1))
   slack-between (High i) e = difference (high-between i (e .1)) tail
 

@@ -15,9 +15,11 @@ use Rattle.paper.specs.Refusals.{refusals}
 use Rattle.paper.specs.Numbers.{outcomeNumber, outcomePlace}
 use Rattle.paper.specs.Outcome.{Left, FileResult}
 use Rattle.worked.specs.Cases.{Expected, answered, refused-8, refused-9, Case, Comes, numberOf, Worked, fileOf, cases}
+use Rattle.worked.specs.RequestCases.{requestCases}
 use Rattle.paper.proofs.TableLaws.{refusals-one-place}
 use Rattle.paper.proofs.NumberLaws.{outcome-one}
 use Rattle.worked.proofs.WorkedCases.{worked-cases}
+use Rattle.worked.proofs.RequestedCases.{requested-cases}
 use Rattle.skew.specs.Rows.{outcomeOf, loopOf, rowBytes, showing, AsRow, Promised}
 use Rattle.paper.proofs.OutputLaws.{latencies-same}
 use Rattle.paper.proofs.LoopLaws.{all-map}
@@ -103,3 +105,7 @@ worked-promised c w = record { allowed = allowed; only = only }
 -- RULES 11.7: "The eleven are one table, and one statement is proved of the whole of it": the paper's results are the scheduler's
 pub worked-results : All Promised cases
 worked-results = all-map worked-promised cases worked-cases
+
+-- RULES 16.14: "One statement is proved of the whole of each, of the same kind as for sections 11, 13 and 15.": so are those of the requests
+pub requested-results : All Promised requestCases
+requested-results = all-map worked-promised requestCases requested-cases

@@ -1,4 +1,4 @@
--- The tables meet the definitions: each row by a test that computes. Callers read `worked-cases`.
+-- The tables meet the definitions: each row by a test that computes. Callers read `worked-cases` and `requested-cases`.
 pub mod Tests
 pub mod CaseTests
 pub mod WorkedCases
@@ -10,3 +10,4 @@ pub mod QuestionTests
 pub mod RejectedQuestionCases
 pub mod SlackCases
 pub mod RejectedSlackCases
+pub mod RequestedCases

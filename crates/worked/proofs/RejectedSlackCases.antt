@@ -46,7 +46,7 @@ module _ (f : List ℕ) where
   unread-by n p h = (h .1, λ q. given-untold f q n p (h .0) (h .1 .asking q))
 
 -- a row, told nothing but itself
-abbrev rowTest : (r : SlackRejection) → Test (SlackRejected r)
+abbrev pub rowTest : (r : SlackRejection) → Test (SlackRejected r)
 rowTest (wrong w q outside inside) =
     via (wrong-by (fileOf w) q outside inside) (pair (notSameℤ outside inside) (answersTest (fileOf w) q inside))
 rowTest (untold w q) = via (untold-by (fileOf w) q) (pair (acceptedTest (fileOf w)) (notInRange (networkOf (fileOf w)) q))

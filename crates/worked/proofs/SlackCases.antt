@@ -22,7 +22,7 @@ pub tells : (c : SlackCase) → FileAnswers (fileOf (c .network)) (c .question) 
 tells c a = record { allowed = a; only = λ o b. one-reply (fileOf (c .network)) (c .question) o (withSlack (c .slack)) b a }
 
 -- a row, told nothing but itself
-abbrev tellsTest : (c : SlackCase) → Test (WorkedSlack c)
+abbrev pub tellsTest : (c : SlackCase) → Test (WorkedSlack c)
 tellsTest c = via (tells c) (answersTest (fileOf (c .network)) (c .question) (c .slack))
 
 atAnswers-told : All WorkedSlack atAnswers
@@ -68,7 +68,7 @@ latenciesOf (refused-8 loop) = []
 latenciesOf (refused-9 loop) = []
 
 -- of a worked network and a rule: the question at the answer's period and latencies
-abbrev atAnswer : Case → Rule → Described × Question
+abbrev pub atAnswer : Case → Rule → Described × Question
 atAnswer c r =
     let N = networkOf (fileOf (c .network)) in
     let x = rowOf (latenciesOf (c .result)) in

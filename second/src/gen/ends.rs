@@ -50,7 +50,9 @@ fn path(rng: &mut Rng, n: i32) -> [i32; 4] {
     [rng.between(0, n - 1), rng.between(0, n - 1), dmin, dmax]
 }
 
-/// Puts all that the rule reads of the network where it is hardest to meet, or easiest.
+/// Puts all that the rule reads of the network where it is hardest to meet, or easiest. The hold rule of a path from a
+/// register to itself does not read u, so it stops short of the smallest slack; one that is charged u all the same
+/// would reach it.
 fn stretch(draft: &mut Draft, rule: Rule, hard: bool) {
     let end = |easy: i32, hardest: i32| if hard { hardest } else { easy };
     match rule.kind {

@@ -2,7 +2,7 @@
 
 use crate::draft::Draft;
 use crate::gen::limits::{near_need, MOST};
-use crate::paper::{DELAY_MOST, PATHS_MOST, REGISTERS_MOST};
+use crate::paper::{hold_charge, DELAY_MOST, PATHS_MOST, REGISTERS_MOST};
 use crate::rng::Rng;
 
 const DELAY: i32 = DELAY_MOST as i32;
@@ -50,8 +50,9 @@ impl<'a> Plan<'a> {
 
     /// A path whose hold rule the hidden schedule meets.
     pub fn path(&mut self, from: i32, to: i32) {
-        let asked = self.hidden[to as usize] + self.draft.registers[to as usize][1] + self.draft.uncertainty
-            - self.hidden[from as usize];
+        let (sender, receiver) = (from as usize, to as usize);
+        let charge = hold_charge(sender, receiver, i64::from(self.draft.uncertainty)) as i32;
+        let asked = self.hidden[receiver] + self.draft.registers[receiver][1] + charge - self.hidden[sender];
         let dmin = (asked.max(0) + self.rng.between(0, self.scale.slack)).min(DELAY);
         let dmax = (dmin + self.rng.between(0, self.scale.spread)).min(DELAY);
         self.draft.paths.push([from, to, dmin, dmax]);

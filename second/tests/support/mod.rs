@@ -5,8 +5,10 @@
 use second::draft::{put_record, Draft};
 use second::file;
 use second::paper::{Kind, Network, Rule};
+use second::question::{reply, Question, Reply};
 use second::rng::Rng;
 use second::wire::fresh_buffer;
+use second::worked::SlackRow;
 
 pub fn accepted(draft: &Draft) -> Network {
     file::read(&draft.file()).expect("the draft is a sound network")
@@ -111,10 +113,57 @@ pub fn combinations(network: &Network) -> i64 {
     network.registers.iter().map(|register| register.high - register.low + 1).product()
 }
 
+/// The cells of the table that stands below a paragraph of the rules, without its two lines of head.
+pub fn table(paragraph: &str) -> Vec<Vec<String>> {
+    let rules = concat!(env!("CARGO_MANIFEST_DIR"), "/../docs/RULES.md");
+    let text = std::fs::read_to_string(rules).unwrap();
+    let (_, after) = text.split_once(&format!("**{paragraph}**")).expect("the rules have the paragraph");
+    let lines = after.lines().skip_while(|line| !line.starts_with('|')).take_while(|line| line.starts_with('|'));
+    lines.skip(2).map(|line| line.split('|').map(|cell| cell.trim().to_string()).collect()).collect()
+}
+
+/// A number as the rules write it: `-3,109,999`, and `M` for a million.
+pub fn number(cell: &str) -> i64 {
+    let digits = cell.replace(',', "");
+    match digits.strip_suffix('M') {
+        Some("") => 1_000_000,
+        Some("-") => -1_000_000,
+        Some(count) => count.parse::<i64>().unwrap() * 1_000_000,
+        None => digits.parse().unwrap(),
+    }
+}
+
+pub fn name_of(question: &Question) -> String {
+    format!("{} {}", Kind::numbered(question.kind).unwrap().name(), question.number)
+}
+
+/// Rows of slacks against the table of a paragraph, and each row's slack against the reply.
+pub fn held_to_the_page(rows: &[SlackRow], paragraph: &str, count: usize) {
+    let written = table(paragraph);
+    assert_eq!((rows.len(), written.len()), (count, count));
+    for (row, cells) in rows.iter().zip(written) {
+        let Question { period, at_tail, at_head, .. } = row.question;
+        let numbers = [i64::from(period), i64::from(at_tail), i64::from(at_head), row.slack];
+        assert_eq!((row.network, name_of(&row.question)), (&cells[1][..], cells[2].clone()));
+        assert_eq!(numbers.to_vec(), cells[3..7].iter().map(|cell| number(cell)).collect::<Vec<_>>(), "{cells:?}");
+        assert_eq!(reply(&row.draft().file(), &row.question), Reply::Slack(row.slack), "{cells:?}");
+    }
+}
+
 /// Tiny networks of one seed that pass the filter, so many of them.
 pub fn tiny_networks(seed: u64, count: usize, keep: impl Fn(&Network) -> bool) -> Vec<(Draft, Network)> {
+    networks_of(second::gen::tiny::network, seed, count, keep)
+}
+
+/// Networks that the maker draws from one seed and that pass the filter, so many of them.
+pub fn networks_of(
+    make: fn(&mut Rng) -> Draft,
+    seed: u64,
+    count: usize,
+    keep: impl Fn(&Network) -> bool,
+) -> Vec<(Draft, Network)> {
     let mut rng = Rng::new(seed);
-    let drafts = std::iter::repeat_with(move || second::gen::tiny::network(&mut rng));
+    let drafts = std::iter::repeat_with(move || make(&mut rng));
     let networks = drafts.map(|draft| {
         let network = accepted(&draft);
         (draft, network)
