@@ -2,7 +2,7 @@
 -- hold the two against each other: no rule asks more than it asked, and a self path's hold rule has more slack by u. `Unchanged` has those on what did
 -- not change. Rests on `Webs`, `Rules`, and on `ChargeLaws` of `paper`.
 use mathlib.Core.Path.{_≡_, refl}
-use mathlib.Core.Logic.{_↔_}
+use mathlib.Core.Logic.{_⊎_, inl, inr, _↔_}
 use mathlib.Core.List.{List, [], _∷_}
 use Prim.Native.Nat.{ℕ, _≤_, _<_}
 use lib.IntN.{ℤ, pos, _+ℤ_, _-ℤ_}
@@ -15,7 +15,7 @@ use Rattle.paper.specs.Chains.{All}
 use Rattle.paper.specs.Rules.{Rule, Setup, Hold, Low, High, Exists, Holds, _≥ℤ_, charged, tail, head, amount, slack}
 use Rattle.paper.specs.Schedule.{Schedule}
 use Rattle.paper.proofs.RuleLaws.{arrow-is-rule}
-use Rattle.paper.proofs.ChargeLaws.{self-path-uncharged, charge-most}
+use Rattle.paper.proofs.ChargeLaws.{self-path-uncharged, other-path-charged, nothing-charged, charge-most}
 use Rattle.loops.specs.Webs.{Within}
 use Rattle.loops.specs.Webs as webs
 use Rattle.loops.specs.Family.{Family, webAt, Best}
@@ -124,13 +124,22 @@ module _ (N : Network) (l : Legal N) where
 larger : (a b u : ℤ) → a -ℤ (b +ℤ pos 0) ≡ (a -ℤ (b +ℤ u)) +ℤ u
 larger a b u = omega (lin, plus b (pos 0), plus b u, negs (b +ℤ pos 0), negs (b +ℤ u), minus a (b +ℤ u))
 
+-- path p is no self path, or its u is 0
+abbrev pub SelfUncharged : Network → ℕ → Type 0
+SelfUncharged N p = (N .from p ≡ N .to p → ⊥) ⊎ (N .uncertainty p ≡ pos 0)
+
+-- then its hold rule is charged what it was
+pub same-charge : (N : Network) (p : ℕ) → SelfUncharged N p → charged N p ≡ charged-everywhere N p
+same-charge N p (inl apart) = other-path-charged N p apart
+same-charge N p (inr zero) = nothing-charged (N .from p) (N .to p) (N .uncertainty p) zero
+
 module _ (N : Network) (P : ℕ) (t v : ℤ) where
-  -- RULES 16.8: "the slack of every rule", where the hold rules are charged what they were
-  pub same-slack : ((p : ℕ) → p < N .paths → charged N p ≡ charged-everywhere N p) → (r : Rule) → Exists N r → slack N P r t v ≡ slackEverywhere N P r t v
-  same-slack same (Setup p) h = refl
-  same-slack same (Hold p) h = rw (same p h) refl
-  same-slack same (Low i) h = refl
-  same-slack same (High i) h = refl
+  -- so the slack of every rule but a self path's hold rule under a u other than 0 is what it was, in whatever network
+  pub same-slack : (r : Rule) → ((p : ℕ) → r ≡ Hold p → SelfUncharged N p) → slack N P r t v ≡ slackEverywhere N P r t v
+  same-slack (Setup p) h = refl
+  same-slack (Hold p) h = rw (same-charge N p (h p refl)) refl
+  same-slack (Low i) h = refl
+  same-slack (High i) h = refl
 
   -- RULES 16.9: "The slack of a self path's hold rule is larger by u on every network."
   pub slack-larger : (p : ℕ) → N .from p ≡ N .to p → slack N P (Hold p) t v ≡ slackEverywhere N P (Hold p) t v +ℤ N .uncertainty p

@@ -1,5 +1,5 @@
--- Where the mended hold rule changed nothing, against u charged everywhere: where no path is a self path or u is 0, and of whatever was not refused
--- with 8. There schedules, loops, the answer and refusals 8 and 9 are what they were. Rests on `Charged`, and on `LoopLaws` of `paper`.
+-- Where the mended hold rule changed nothing, against u charged everywhere: where no path is a self path or u is 0, and of every network that 8 did not
+-- apply to. There schedules, loops, the answer and refusals 8 and 9 are what they were. Rests on `Charged`, and on `LoopLaws` of `paper`.
 use mathlib.Core.Path.{_≡_, refl, sym, ap₂}
 use mathlib.Core.Logic.{_⊎_, inl, inr, _↔_}
 use mathlib.Core.List.{List, [], _∷_}
@@ -16,11 +16,11 @@ use Rattle.paper.specs.Rules.{Rule, Setup, Hold, Low, High, Exists, charged, ta
 use Rattle.paper.specs.Schedule.{Schedule, IsLoop, Contradicts, Refutes, Answer, Shown}
 use Rattle.paper.specs.Refusals.{Scheduled, NoPeriod, NoneToCeiling}
 use Rattle.paper.proofs.LoopLaws.{Apart, alone-or-apart}
-use Rattle.paper.proofs.ChargeLaws.{other-path-charged, nothing-charged}
+use Rattle.paper.proofs.ChargeLaws.{other-path-charged}
 use Rattle.loops.specs.Family.{ShownFrom}
 use Rattle.loops.specs.Family as family
 use Rattle.loops.proofs.Rules.{schedule-rules}
-use Rattle.loops.proofs.Charged.{charged-everywhere, amountEverywhere, everywhere, ScheduleEverywhere, AnswerEverywhere, ScheduledEverywhere, NoPeriodEverywhere, NoneToCeilingEverywhere, still-schedule, total-less}
+use Rattle.loops.proofs.Charged.{charged-everywhere, amountEverywhere, everywhere, ScheduleEverywhere, AnswerEverywhere, ScheduledEverywhere, NoPeriodEverywhere, NoneToCeilingEverywhere, SelfUncharged, same-charge, still-schedule, total-less}
 
 -- a number that is on both sides tells nothing
 both-sides : (y s d : ℤ) → (y +ℤ (s -ℤ d)) ≤ℤ y → s ≤ℤ d
@@ -43,7 +43,7 @@ abbrev Alike : Network → ℕ → Rule → Type 0
 Alike N P r = (amount N P r ≡ amountEverywhere N P r) ⊎ ((tail N r ≡ head N r) × (amountEverywhere N P r ≤ℤ pos 0))
 
 -- what the hold rule of path p asked of dmin, beside the latencies
-abbrev asked : Network → ℕ → ℤ
+abbrev pub asked : Network → ℕ → ℤ
 asked N p = N .hold (N .to p) +ℤ charged-everywhere N p
 
 -- Of a path: its hold rule is charged what it was, or it is a self path that met its hold rule with u charged. So of every path of a network.
@@ -55,29 +55,28 @@ Unchanged N = (p : ℕ) → p < N .paths → PathUnchanged N p
 
 module _ (N : Network) where
   -- RULES 16.8: "Where a network has no self path, or u is 0"
-  pub unchanged-if-none : ((p : ℕ) → p < N .paths → (N .from p ≡ N .to p → ⊥) ⊎ (N .uncertainty p ≡ pos 0)) → Unchanged N
-  unchanged-if-none none p h = go (none p h)
-    where
-      go : (N .from p ≡ N .to p → ⊥) ⊎ (N .uncertainty p ≡ pos 0) → PathUnchanged N p
-      go (inl apart) = inl (other-path-charged N p apart)
-      go (inr zero) = inl (nothing-charged (N .from p) (N .to p) (N .uncertainty p) zero)
+  pub unchanged-if-none : ((p : ℕ) → p < N .paths → SelfUncharged N p) → Unchanged N
+  unchanged-if-none none p h = inl (same-charge N p (none p h))
+
+  -- RULES 16.9: "where some period has a schedule with u charged everywhere, all self paths meet their hold rules even so": the register's latency
+  -- stands on both sides
+  pub self-met : (P : ℕ) → ScheduledEverywhere N P → (p : ℕ) → p < N .paths → N .from p ≡ N .to p → asked N p ≤ℤ N .dmin p
+  self-met P s p h self = both-sides (s .0 (N .to p)) (asked N p) (N .dmin p) (rw self at (s .1 .meets (Hold p) h))
 
   -- RULES 16.9: "Only a network that is refused with 8 when u is charged everywhere can have another result.": a self path met its hold rule, or did not
-  -- and barred every period, for its register's latency stands on both sides.
+  -- and barred every period.
   pub unchanged-unless-8 : (NoPeriodEverywhere N → ⊥) → Unchanged N
   unchanged-unless-8 not-8 p h = go (ℕ-discrete (N .from p) (N .to p)) (either-way (asked N p) (N .dmin p))
     where
       barred : N .from p ≡ N .to p → N .dmin p <ℤ asked N p → NoPeriodEverywhere N
-      barred self less P from s =
-          let met = both-sides (s .0 (N .to p)) (asked N p) (N .dmin p) (rw self at (s .1 .meets (Hold p) h)) in
-          omega lin
+      barred self less P from s = let met = self-met P s p h self in omega lin
 
       go : Dec (N .from p ≡ N .to p) → (asked N p ≤ℤ N .dmin p) ⊎ (N .dmin p <ℤ asked N p) → PathUnchanged N p
       go (no apart) m = inl (other-path-charged N p apart)
       go (yes self) (inl met) = inr (self, met)
       go (yes self) (inr less) = absurd (not-8 (barred self less))
 
-  -- RULES 16.9: "where some period has a schedule with u charged everywhere, all self paths meet their hold rules even so"
+  -- in particular where some period had a schedule
   pub unchanged-if-scheduled : (P : ℕ) → 1 ≤ P → ScheduledEverywhere N P → Unchanged N
   unchanged-if-scheduled P from s = unchanged-unless-8 (λ none. none P from s)
 

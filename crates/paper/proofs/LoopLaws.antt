@@ -75,7 +75,7 @@ module _ {E : Type 0} (tail head : E → ℕ) where
   chain-apart t u (e ∷ f ∷ l) c a o =
       ((λ self. o .0 .0 (c .1 .0 ∙ sym self)), chain-apart t (head e) (f ∷ l) (c .1) (a .1) (o .1))
 
-  -- So an arrow that leads back is a loop by itself, or is on none.
+  -- So a loop is one arrow, or none of its arrows leads back: one that does is on no loop but the one it is by itself.
   pub alone-or-apart : (l : List E) → Loop tail head l → ((e : E) × (l ≡ e ∷ [])) ⊎ All Apart l
   alone-or-apart [] o = absurd o
   alone-or-apart (e ∷ []) o = inl (e, refl)

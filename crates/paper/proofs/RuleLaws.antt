@@ -93,13 +93,13 @@ module _ (N : Network) where
   arrow-is-rule P x (Low i) host = ((λ h. omega lin), (λ h. omega lin))
   arrow-is-rule P x (High i) host = ((λ h. omega (lin, negs (N .high i))), (λ h. omega (lin, negs (N .high i))))
 
-  -- A self path's register has one latency, which stands on both sides of its rules. RULES 16.6: "there the rule is met exactly when dmin is at
+  -- By a row of latencies a self path's register has one, which stands on both sides. RULES 16.6: "there the rule is met exactly when dmin is at
   -- least the hold time."
   pub self-hold-iff : (P : ℕ) (x : ℕ → ℤ) (p : ℕ) → N .from p ≡ N .to p → Holds N P x (Hold p) ↔ (N .hold (N .to p) ≤ℤ N .dmin p)
   self-hold-iff P x p self =
       rw (self-path-uncharged N p self, self, nothing-more (x (N .to p) +ℤ N .hold (N .to p))) (on-both-sides (x (N .to p)) (N .hold (N .to p)) (N .dmin p))
 
-  -- RULES 16.3: "it is charged u on every path, on a self path too."
+  -- RULES 16.3: "on a self path too."
   pub self-setup-iff : (P : ℕ) (x : ℕ → ℤ) (p : ℕ) → N .from p ≡ N .to p
       → Holds N P x (Setup p) ↔ ((N .dmax p +ℤ N .setup (N .to p) +ℤ N .uncertainty p) ≤ℤ pos P)
   self-setup-iff P x p self =

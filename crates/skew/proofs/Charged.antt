@@ -1,7 +1,7 @@
 -- What the mended hold rule changed in what the scheduler may return and leave, against u charged everywhere. The contract as it was is kept here, and
--- for every accepted file with no self path, or with u 0, it is the contract; so it is for every file that was not refused with 8. Rests on `Demands`,
+-- for every accepted file with no self path, or with u 0, it is the contract; so it is for every accepted file that 8 did not apply to. Rests on `Demands`,
 -- and on `Charged` and `Unchanged` of `loops`, which have the rule as it was.
-use mathlib.Core.Path.{_≡_, refl}
+use mathlib.Core.Path.{_≡_, refl, ap, _∙_}
 use mathlib.Core.Logic.{_⊎_, inl, inr, _↔_}
 use mathlib.Core.List.{List, [], _∷_, _++_}
 use Prim.Native.Nat.{ℕ, _+_, _*_, _≤_, _<_}
@@ -13,17 +13,19 @@ use lib.ListN.{length}
 use Rattle.whole.specs.Four.{wordAt, signedOf, numberAt, wordOf, bytesOf, four}
 use Rattle.whole.proofs.Lin.{lin}
 use Rattle.paper.specs.declared.Outcome.{Outcome}
+use Rattle.paper.specs.declared.Reply.{Reply}
 use Rattle.paper.specs.declared.Outcome.the-variants as outcome
 use Rattle.paper.specs.Network.{Network}
 use Rattle.paper.specs.Limits.{roomFor}
 use Rattle.paper.specs.Rules.{Rule, Hold}
 use Rattle.paper.specs.Schedule.{setups}
-use Rattle.paper.specs.File.{networkOf}
+use Rattle.paper.specs.File.{natural, networkOf}
 use Rattle.paper.specs.Table.{Row, Fails, When, Given}
 use Rattle.paper.specs.Refusals.{Accepted, NoPeriod, NoneToCeiling, faults, scheduleRows}
 use Rattle.paper.specs.Numbers.{outcomeNumber, outcomePlace}
 use Rattle.paper.specs.Output.{AnswerOutput, LoopAlone}
 use Rattle.paper.specs.Outcome.{Left, FileResult}
+use Rattle.paper.specs.Question.{Question, Asked, InRange, FileAnswers, withSlack}
 use Rattle.paper.proofs.Legal.{Legal, accepted-legal}
 use Rattle.paper.proofs.RuleLaws.{self-hold-iff}
 use Rattle.paper.proofs.TableLaws.{given-after, refusals-one-place}
@@ -32,11 +34,12 @@ use Rattle.worked.specs.Cases.{fileOf}
 use Rattle.worked.specs.RequestCases.{T}
 use Rattle.loops.specs.Family.{ShownFrom}
 use Rattle.loops.specs.Family as family
-use Rattle.loops.proofs.Charged.{everywhere, AnswerEverywhere, NoPeriodEverywhere, NoneToCeilingEverywhere}
+use Rattle.loops.proofs.Charged.{slackEverywhere, everywhere, AnswerEverywhere, NoPeriodEverywhere, NoneToCeilingEverywhere, SelfUncharged, same-slack}
 use Rattle.loops.proofs.Unchanged.{Unchanged, unchanged-if-none, unchanged-if-scheduled, unchanged-unless-8, same-refutes, same-shown, same-answer, same-no-period, same-none-to-ceiling}
 use Rattle.skew.proofs.Unique.{answer-unique}
 use Rattle.skew.proofs.Calls.{given-rest}
 use Rattle.skew.proofs.Demands.{refused-8-iff}
+use Rattle.skew.proofs.QuestionLaws.{question-slack}
 
 -- ---- a self path's hold rule
 
@@ -128,6 +131,15 @@ module _ (N : Network) (legal : Legal N) (same : Unchanged N) (before after : Li
   left-as-it-is outcome.NoPeriod l = record { loop = l .0; no-setups = l .1; refutes = λ P. same-refutes N legal same P (l .0) .0 (l .2 P); bytes = l .3 }
   left-as-it-is outcome.NoneToCeiling l = record { loop = l .0; refutes = same-refutes N legal same (N .ceiling) (l .0) .0 (l .1); bytes = l .2 }
 
+-- RULES 16.8: "Where a network has no self path, or u is 0". u is the header's number at byte 18 (RULES 5.6).
+abbrev pub NoSelfPathOrNoU : List ℕ → Type 0
+NoSelfPathOrNoU f = ((p : ℕ) → p < networkOf f .paths → networkOf f .from p ≡ networkOf f .to p → ⊥) ⊎ (numberAt f 18 ≡ pos 0)
+
+uncharged : (f : List ℕ) → NoSelfPathOrNoU f → (p : ℕ) → p < networkOf f .paths → SelfUncharged (networkOf f) p
+unfolding networkOf
+uncharged f (inl apart) p h = inl (apart p h)
+uncharged f (inr zero) p h = inr zero
+
 module _ (f : List ℕ) (a : Accepted f) {before after : List ℕ} {o : Outcome} where
   result-as-it-was : Unchanged (networkOf f) → FileResult f before o after ↔ FileResultEverywhere f before o after
   result-as-it-was same = (
@@ -162,14 +174,9 @@ module _ (f : List ℕ) (a : Accepted f) {before after : List ℕ} {o : Outcome}
       nine : NoneToCeilingEverywhere N ↔ NoneToCeiling N
       nine = same-none-to-ceiling N legal same
 
-  -- RULES 16.8: "Where a network has no self path, or u is 0, none of these depends on which of the two is read": one contract. u is the header's
-  -- number at byte 18 (RULES 5.6).
-  pub result-without-self-paths :
-      ((p : ℕ) → p < networkOf f .paths → networkOf f .from p ≡ networkOf f .to p → ⊥) ⊎ (numberAt f 18 ≡ pos 0)
-      → FileResult f before o after ↔ FileResultEverywhere f before o after
-  unfolding networkOf
-  result-without-self-paths (inl apart) = result-as-it-was (unchanged-if-none (networkOf f) (λ p h. inl (apart p h)))
-  result-without-self-paths (inr zero) = result-as-it-was (unchanged-if-none (networkOf f) (λ p h. inr zero))
+  -- RULES 16.8: "Where a network has no self path, or u is 0, none of these depends on which of the two is read": one contract
+  pub result-without-self-paths : NoSelfPathOrNoU f → FileResult f before o after ↔ FileResultEverywhere f before o after
+  result-without-self-paths none = result-as-it-was (unchanged-if-none (networkOf f) (uncharged f none))
 
   -- RULES 16.9: "Only a network that is refused with 8 when u is charged everywhere can have another result."
   pub result-unless-8 : (NoPeriodEverywhere (networkOf f) → ⊥) → FileResult f before o after ↔ FileResultEverywhere f before o after
@@ -196,6 +203,16 @@ module _ (f : List ℕ) (a : Accepted f) {before after′ : List ℕ} (was : Fil
 
   pub period-never-rises : {after : List ℕ} (r : FileResult f before outcome.Answered after) → r .output .period ≤ was .output .period
   period-never-rises r = let same = answer-still r .0 in omega arith
+
+-- ---- the rule question
+
+-- RULES 16.8: "and the slack of every rule": what the question tells of an accepted file is the slack with u charged everywhere
+pub slack-without-self-paths : (f : List ℕ) → Accepted f → NoSelfPathOrNoU f → (q : Question) (r : Rule) (o : Reply)
+    → InRange (networkOf f) q → Asked (networkOf f) q r → FileAnswers f q o
+    → o ≡ withSlack (slackEverywhere (networkOf f) (natural (q .period)) r (q .tail-latency) (q .head-latency))
+slack-without-self-paths f a none q r o in-range asked-for answers =
+    question-slack f q r o a in-range asked-for answers
+    ∙ ap withSlack (same-slack (networkOf f) (natural (q .period)) (q .tail-latency) (q .head-latency) r (λ p e. uncharged f none p (rw e at (asked-for .exists))))
 
 -- ---- the toggle flip-flop
 

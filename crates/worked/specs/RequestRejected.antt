@@ -28,7 +28,7 @@ selfNoLoops =
     ∷ no-loop T9 (Hold 1 ∷ [])
     ∷ []
 
--- the sums of T, T3, T6, T7, T8 and T9 in RULES 16.11: above 0 at this period, and 0 at the next
+-- the sums of T, T3, T6, T7, T8 and T9 in RULES 16.11: above 0 at this period, and not at the next
 abbrev pub selfUntil : List Rejection
 selfUntil =
     until T 9 (Setup 0 ∷ [])
