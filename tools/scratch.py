@@ -24,7 +24,7 @@ class Scratch:
     def __init__(self):
         self.holder = tempfile.TemporaryDirectory()
         self.root = Path(self.holder.name) / "project"
-        for name in ("list", "tools/run", "tools/have", ".ci/run"):
+        for name in ("list", "tools/run", "tools/have", "tools/release", ".ci/run"):
             self.copy(name)
         self.write("crates.txt", "base:\nlisting: base io\nskewlist: listing\nother: base\n")
         for name in ("base/src/lib.rt", "listing/specs/Lib.antt", "listing/proofs/f/Proof.antt", "other/src/lib.rt"):

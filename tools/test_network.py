@@ -1,5 +1,5 @@
 #!/usr/bin/env python3
-"""Tests of network.py and examples.py: python3 test_network.py"""
+"""Tests of the text form and of examples.py: python3 test_network.py"""
 
 import subprocess
 import sys
@@ -9,6 +9,7 @@ from pathlib import Path
 
 import examples
 import network
+from mileparcel.network import NoNetwork
 
 HERE = Path(__file__).resolve().parent
 REGISTERS_A = ["register setup 1 hold 1 low 0 high 0"] + 2 * ["register setup 1 hold 1 low -10 high 10"]
@@ -84,15 +85,16 @@ class Malformed(unittest.TestCase):
         faults = {
             "": "no network line",
             "net floor 1 ceiling 2 u 3": "line 1: 'net' is none of",
-            "network floor 1 ceiling 2": "line 1: 5 words where 7 are due",
-            "network floor 1 ceiling 2 v 3": "line 1: 'v' where 'u' is due",
-            "network floor 1 ceiling 2 u x": "line 1: 'x' is not a decimal number",
-            "network floor +1 ceiling 2 u 3": "line 1: '+1' is not a decimal number",
-            "network floor 1_0 ceiling 2 u 3": "line 1: '1_0' is not a decimal number",
-            "network floor 2147483648 ceiling 2 u 3": "line 1: 2147483648 does not fit four bytes",
+            "network floor 1 ceiling 2": "line 1: 'network floor 1 ceiling 2' is not of the form 'network floor FLOOR ceiling CEILING u U'",
+            "network floor 1 ceiling 2 v 3": "line 1: 'network floor 1 ceiling 2 v 3' is not of the form",
+            "network floor 1 ceiling 2 u x": "line 1: u: 'x' is no number",
+            "network floor 1_0 ceiling 2 u 3": "line 1: floor: '1_0' is no number",
+            "network floor 2147483648 ceiling 2 u 3": "line 1: network: floor is 2147483648 ps, and must be from 1 to 10000000",
             "path 0 0 0 0": "line 1: a path line before the network line",
             start + start: "line 2: a second network line",
-            start + "\n# x\npath 0 0 0": "line 4: 4 words where 5 are due",
+            start + "\n# x\npath 0 0 0": "line 4: 'path 0 0 0' is not of the form 'path FROM TO DMIN DMAX'",
+            start + "path 0 x 0 0": "line 2: to: 'x' is no number, and a register's number is due",
+            start + "path 0 0.5 0 0": "line 2: to: '0.5' is no whole number, and a register's number is due",
             start + "path 0 0 0 0\nregister setup 0 hold 0 low 0 high 0": "line 3: a register line after a path line",
         }
         for lines, words in faults.items():
@@ -101,31 +103,17 @@ class Malformed(unittest.TestCase):
                     network.make(lines)
                 self.assertIn(words, str(caught.exception))
 
+    def test_every_fault_is_told(self):
+        with self.assertRaises(network.Malformed) as caught:
+            network.make("network floor 0 ceiling 2 u x\nregister setup y hold 0 low 0 high 0\n")
+        self.assertEqual(str(caught.exception).count("line 1"), 2)
+        self.assertIn("line 2: setup: 'y' is no number", str(caught.exception))
+
     def test_files(self):
         sound = network.make(PAPER["A"][0])
-        faults = [b"", sound[:21], b"XX" + sound[2:], sound[:-1], sound + b"\0", sound[:22] + b"??" + sound[24:]]
-        faults += [sound[:76] + b"RG" + sound[78:], sound[:2] + b"\xff\xff\xff\xff" + sound[6:]]
-        for data in faults:
+        for data in [b"", sound[:21], b"XX" + sound[2:], sound[:-1], sound + b"\0", sound[:2] + b"\xff\xff\xff\xff" + sound[6:]]:
             with self.subTest(data):
-                self.assertRaises(network.Malformed, network.show, data)
-
-
-class Commands(unittest.TestCase):
-    def test_make_and_show(self):
-        lines = PAPER["A"][0].encode()
-        made = run("network.py", "make", data=lines)
-        self.assertEqual((made.returncode, len(made.stdout)), (0, 130))
-        shown = run("network.py", "show", data=made.stdout)
-        self.assertEqual((shown.returncode, shown.stdout), (0, lines))
-
-    def test_faults_are_told_and_write_nothing(self):
-        fault = run("network.py", "make", data=b"network\n")
-        self.assertEqual((fault.returncode, fault.stdout), (1, b""))
-        self.assertIn(b"line 1: 1 words where 7 are due", fault.stderr)
-        self.assertEqual(run("network.py", "show", data=b"NW").returncode, 1)
-        self.assertEqual(run("network.py").returncode, 2)
-        for words in ([], ["real"], ["a", "b"]):
-            self.assertEqual(run("examples.py", *words).returncode, 2)
+                self.assertRaises(NoNetwork, network.show, data)
 
 
 def arrows(data, period):
@@ -171,6 +159,10 @@ class Examples(unittest.TestCase):
                 self.assertEqual((network.make(lines), network.show(data)), (data, bare))
         self.assertEqual(network.make(examples.NETWORK_A), network.make(PAPER["A"][0]))
         self.assertEqual(network.make(examples.NETWORK_D), network.make(PAPER["D"][0]))
+
+    def test_wrong_words_are_told(self):
+        for words in ([], ["real"], ["a", "b"]):
+            self.assertEqual(run("examples.py", *words).returncode, 2)
 
     def test_the_pipeline_is_answered_above_its_floor(self):
         data = network.make(examples.pipeline())

@@ -10,7 +10,7 @@ import unittest
 from pathlib import Path
 
 ROOT = Path(__file__).resolve().parent.parent
-PLACES = ["README.md", "list", ".ci", "bench", "crates", "docs", "examples", "include", "second", "tools"]
+PLACES = ["README.md", "list", "mileparcel", ".ci", "bench", "bindings", "crates", "docs", "examples", "include", "second", "tools"]
 C = r"/\*|\*|//"
 SIGNS = {".antt": "--", ".rt": "//", ".rs": "//[/!]?", ".h": C, ".c": C, ".hpp": C, ".cpp": C, ".md": "(?!)", ".py": "#", "": "#"}
 NAMED = re.compile(r"RULES (\d+\.\d+(?:(?:,| and|, and| to) \d+\.\d+)*)")
