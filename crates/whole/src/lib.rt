@@ -1,5 +1,7 @@
 // Whole numbers in a byte slice: four bytes each, two's complement, low byte first. Each contract cites one definition of specs/Four.antt.
 // A quotient rounded up, by specs/Rounding.antt. And tests of numbers, by specs/Within.antt.
+#![tactic(auto)]
+
 ghost use Rattle.std.specs.Prelude.{◌≡◌, ◌&&◌, ◌+◌, ◌≤◌, ◌<◌, length, pos, neg_ℤ};
 ghost use Rattle.std.proofs.lemmas.List.Edits.{sets};
 ghost use Rattle.whole.specs.Four.{word_at, signed_of, number_at, word_of, bytes_of, four};
