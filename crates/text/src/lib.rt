@@ -1,5 +1,7 @@
 // Text into a lent buffer: bytes, and numbers in decimal. Each writer puts its bytes at a place and returns the place behind them; its contract
 // is `Written`, or `Ended` where the place has a bound, of specs/Written.antt.
+#![tactic(auto)]
+
 ghost use Rattle.std.specs.Prelude.{◌≡◌, ◌+◌, ◌≤◌, nat_abs, length};
 ghost use Rattle.text.specs.Decimal.{decimal, whole};
 ghost use Rattle.text.specs.Written.{Ended, Written};
