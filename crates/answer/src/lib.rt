@@ -1,6 +1,7 @@
 // The answer's bytes: a record of three numbers, then the latencies, then the loop. Each contract ends in the paper's `Front`: the bytes
 // stand at the front of the output, and every byte past the last one written keeps its value. The loop is given by the places of its
 // arrows, and the kind and the number at a place name the rule there.
+#![tactic(auto)]
 ghost use Rattle.std.specs.Prelude.{map, ◌+◌, ◌*◌, ◌≤◌, length, take};
 ghost use Rattle.paper.specs.Output.{LoopAlone};
 ghost use Rattle.loops.specs.Names.{named};

@@ -10,7 +10,7 @@ use guess::guess;
 use network::Header;
 
 // The period that is tried first, and how many entries the loop has that shows why.
-#[derive(Drop)]
+#[derive(Clone, Copy)]
 pub struct Start {
     pub period: i32,
     pub kept: usize,

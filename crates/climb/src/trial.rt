@@ -5,7 +5,7 @@ use answer::{answered, loop_alone};
 use paper::Outcome;
 
 // What a trial comes to: the search is at its end, or a later period is to be tried, with so many entries of the loop that shows why.
-#[derive(Drop)]
+#[derive(Clone, Copy)]
 pub enum Tried {
     Ends(Outcome),
     Next(i32, usize),

@@ -10,7 +10,7 @@ use rounds::relax::go_on;
 use rounds::round::{copy, copy_preds};
 
 // How many entries a loop of the arrows that contradicts itself has, and how many of the first arrows the kept row meets.
-#[derive(Drop)]
+#[derive(Clone, Copy)]
 pub struct Sight {
     pub entries: usize,
     pub passed: usize,

@@ -17,7 +17,7 @@ const MOST_REGISTERS: i32 = limits::MOST_REGISTERS as i32;
 const MOST_PATHS: i32 = limits::MOST_PATHS as i32;
 
 // What a search for a faulty record finds.
-#[derive(Drop)]
+#[derive(Clone, Copy)]
 pub enum Found {
     At(usize),
     Nothing,

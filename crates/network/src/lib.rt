@@ -1,5 +1,6 @@
 // The network file in code: whether it is accepted, which fault comes first where it is not, and its records as structs by value. Each
 // contract cites a definition of the paper, or one of specs/ that says a record's fields are those of the network that the file means.
+#![tactic(auto)]
 ghost use Rattle.std.specs.Prelude.{◌≡◌, true};
 ghost use Rattle.paper.specs.File.{counted, sized};
 ghost use Rattle.paper.specs.Outcome.{Judged};
@@ -13,7 +14,7 @@ use fault::Found;
 use paper::{Delay, Fault, Latency, Verdict};
 
 // What the header says, but for the clock uncertainty, which each path carries.
-#[derive(Drop)]
+#[derive(Clone, Copy)]
 pub struct Header {
     pub registers: usize,
     pub paths: usize,
@@ -22,7 +23,7 @@ pub struct Header {
 }
 
 // Register 0 is the host, whose window is 0 to 0.
-#[derive(Drop)]
+#[derive(Clone, Copy)]
 pub struct Register {
     pub setup: Delay,
     pub hold: Delay,
@@ -31,7 +32,7 @@ pub struct Register {
 }
 
 // The uncertainty is that of which the path's rules are charged: all of it in setup, and in hold what `rules::charged` says.
-#[derive(Drop)]
+#[derive(Clone, Copy)]
 pub struct Path {
     pub from: usize,
     pub to: usize,

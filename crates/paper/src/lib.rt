@@ -7,11 +7,11 @@ ghost use Rattle.std.specs.Int.{w32};
 ghost use Rattle.std.proofs.Common.{SFits};
 
 // When a register's clock edge comes, counted from the host's edge, in picoseconds.
-#[derive(Drop)]
+#[derive(Clone, Copy)]
 pub struct Latency(pub i32);
 
 // A length of time, in picoseconds: a travel, a setup or hold time, a period, an amount, a slack.
-#[derive(Drop)]
+#[derive(Clone, Copy)]
 pub struct Delay(pub i32);
 
 impl Latency {
@@ -59,7 +59,7 @@ impl Delay {
 }
 
 // What is wrong with a file, and where: numbers 1 to 6.
-#[derive(Drop)]
+#[derive(Clone, Copy)]
 pub enum Fault {
     Header,
     Counts,
@@ -70,21 +70,21 @@ pub enum Fault {
 }
 
 // What a look at a file finds.
-#[derive(Drop)]
+#[derive(Clone, Copy)]
 pub enum Verdict {
     Accepted,
     Faulty(Fault),
 }
 
 // What is wrong with what a call was given: a file's fault, or number 10. One list for the whole module, of which each function gives a part.
-#[derive(Drop)]
+#[derive(Clone, Copy)]
 pub enum Refusal {
     File(Fault),
     Question,
 }
 
 // What the scheduler returns: number 0, a refusal of what it was given, or numbers 7 to 9.
-#[derive(Drop)]
+#[derive(Clone, Copy)]
 pub enum Outcome {
     Answered,
     Refused(Refusal),
@@ -94,7 +94,7 @@ pub enum Outcome {
 }
 
 // What the rule question returns: by how much the rule is met, with number 0, or a refusal of what it was given.
-#[derive(Drop)]
+#[derive(Clone, Copy)]
 pub enum Reply {
     Slack(Delay),
     Refused(Refusal),

@@ -1,4 +1,5 @@
 // The records of a file as they stand in it, whatever they announce: read through a reader, which holds the lent file and a place in it.
+#![tactic(auto)]
 ghost use Rattle.std.specs.Prelude.{◌+◌, ◌≤◌, length};
 ghost use Rattle.records.specs.Records.{IsRecord};
 
@@ -6,7 +7,7 @@ pub mod reader;
 
 // A record of 18 bytes: the initial and the last letter of its mark, its four numbers, whatever they stand for, and the place of the next
 // record.
-#[derive(Drop)]
+#[derive(Clone, Copy)]
 pub struct Record {
     pub initial: u8,
     pub last: u8,

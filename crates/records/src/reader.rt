@@ -6,7 +6,7 @@ ghost use Rattle.records.specs.Records.{IsRecord};
 
 use crate::Record;
 
-#[derive(Drop)]
+#[derive(Clone, Copy)]
 pub struct Reader<'a> {
     pub file: &'a [u8],
     pub at: usize,

@@ -1,3 +1,4 @@
 // Relaxation over two rows.
+#![tactic(auto)]
 pub mod relax;
 pub mod round;

@@ -1,4 +1,5 @@
 // Settling: every register takes the time that its preds give it, so that a rise reaches all that hangs on it in the same round.
+#![tactic(auto)]
 ghost use Rattle.std.specs.Prelude.{◌≡◌, ◌<◌, length, get_or, pos, ◌+ℤ◌, ◌-ℤ◌};
 ghost use Rattle.std.specs.Int.{w32, w64};
 ghost use Rattle.std.proofs.Common.{SFits};
@@ -10,7 +11,7 @@ use paper::limits::MOST_REGISTERS;
 use paper::{Delay, Latency};
 
 // What a walk back along the preds found: whether it came to an end, and the time that the preds give where it began.
-#[derive(Drop)]
+#[derive(Clone, Copy)]
 struct Walk {
     found: bool,
     time: i32,

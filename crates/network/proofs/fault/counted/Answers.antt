@@ -1,0 +1,8 @@
+-- `network::fault::counted` meets its contract: the two counts, each within its range.
+use borrow.Author.Rules.{rules}
+use Rattle.network.proofs.Joined.{counted-joined}
+use Rattle.network.proofs.fault.counted.Goals as goal
+
+pub returns : goal.returns
+returns c =
+    counted-joined _ c.within_at.ensures c.within_at-2.ensures c.both.ensures

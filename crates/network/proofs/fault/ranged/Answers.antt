@@ -1,0 +1,12 @@
+-- `network::fault::ranged` meets its contract: the header's three times, each within its range.
+use borrow.Author.Rules.{rules}
+use Rattle.network.proofs.Joined.{ranged-joined}
+use Rattle.network.proofs.fault.ranged.Goals as goal
+
+pub returns : goal.returns
+returns c =
+    ranged-joined _
+    c.within_at.ensures
+    c.rising.ensures
+    c.within_at-2.ensures
+    c.all3.ensures
