@@ -26,6 +26,13 @@ use Rattle.arrows.proofs.Fills.{room_wide, paths-none, paths-put, paths_all}
 use Rattle.arrows.proofs.Same.{SameLengths, same_start, same_put}
 use Rattle.arrows.proofs.fill.Given as goal
 
+-- the paths below p have their rules, and no list has changed its length
+pub record Turn (N : Network) (L old : Lists) (amounts before bases bases-before : List ℤ) (m p : ℕ) : Type 0 where
+  pub paths : Paths N L amounts bases p
+  pub to : p ≤ m
+  pub same : SameLengths L old amounts before
+  pub same-bases : length bases ≡ length bases-before
+
 abbrev pub invariant-loop-p : goal.invariant-loop-p
 invariant-loop-p l = Turn (network_of l.file) (lists l.kind l.number l.tail l.head) (lists l.initial.kind l.initial.number l.initial.tail l.initial.head) l.amount l.initial.amount l.base l.initial.base l.m l.p
 

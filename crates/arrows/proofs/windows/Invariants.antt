@@ -23,6 +23,12 @@ use Rattle.arrows.proofs.Fills.{windows-none, windows-put}
 use Rattle.arrows.proofs.Same.{SameLengths, same_start, same_put}
 use Rattle.arrows.proofs.windows.Given as goal
 
+-- the registers below i have their windows, and no list has changed its length
+pub record Turn (N : Network) (L old : Lists) (amounts before : List ℤ) (n i : ℕ) : Type 0 where
+  pub windows : Windows N L amounts i
+  pub to : i ≤ n
+  pub same : SameLengths L old amounts before
+
 abbrev pub invariant-loop-i : goal.invariant-loop-i
 invariant-loop-i l = Turn (network_of l.file) (lists l.kind l.number l.tail l.head) (lists l.initial.kind l.initial.number l.initial.tail l.initial.head) l.amount l.initial.amount l.n l.i
 

@@ -21,7 +21,7 @@ turn_round-requires c =
 pub returns-then-not-turn_round : goal.returns-then-not-turn_round
 returns-then-not-turn_round c =
     let s = c.requires.starts in
-    after_rested _ s.shape _ _ s.resumes.ready _ _ _ c.turn_round.ensures _ (not-true c.turn_round.result c.if-not-turn_round.true)
+    after_rested _ s.shape _ _ s.resumes.ready _ _ _ c.turn_round.ensures _ c.if-not-turn_round.true
 
 pub settle-s-requires : goal.settle-s-requires
 settle-s-requires c =
@@ -39,7 +39,7 @@ pub returns-then-n-s : goal.returns-then-n-s
 returns-then-n-s c =
     let s = c.requires.starts in
     after_settled _ s.shape _ _ s.resumes.ready _ _ _ c.turn_round.ensures _ _ c.settle-s.ensures _ _ s.bounded
-    (not-false c.turn_round.result c.if-not-turn_round.false) c.if-n-s.true (omega arith)
+    c.if-not-turn_round.false c.if-n-s.true (omega arith)
 
 pub show-requires : goal.show-requires
 show-requires c =
