@@ -10,20 +10,20 @@ use Rattle.listing.proofs.put_entry.Goals as goal
 pub returns-in-0 : goal.returns-in-0
 returns-in-0 c =
     let f = c.ranges in
-    kind-line setup_word _ _ _ c.put_line.ensures (omega arith) (to_z-of_z f.number) (setup-kind (matched f.kind c.in-0.keys1))
+    kind-line setup_word _ _ _ c.put_line.ensures (omega arith) (to_z-of_z f.number) (setup-kind (matched f.kind c.in-0.in-0-own.keys1))
 
 pub returns-in-1 : goal.returns-in-1
 returns-in-1 c =
     let f = c.ranges in
-    kind-line hold_word _ _ _ c.put_line-in-1.ensures (omega arith) (to_z-of_z f.number) (hold-kind (matched f.kind c.in-1.keys2))
+    kind-line hold_word _ _ _ c.put_line-in-1.ensures (omega arith) (to_z-of_z f.number) (hold-kind (matched f.kind c.in-1.in-1-own.keys2))
 
 pub returns-in-2 : goal.returns-in-2
 returns-in-2 c =
     let f = c.ranges in
-    kind-line low_word _ _ _ c.put_line-in-2.ensures (omega arith) (to_z-of_z f.number) (low-kind (matched f.kind c.in-2.keys3))
+    kind-line low_word _ _ _ c.put_line-in-2.ensures (omega arith) (to_z-of_z f.number) (low-kind (matched f.kind c.in-2.in-2-own.keys3))
 
 pub returns-in_default : goal.returns-in_default
 returns-in_default c =
     let f = c.ranges in
-    let none = c.in_default.rest in
+    let none = c.in_default.in_default-own.rest in
     kind-line high_word _ _ _ c.put_line-in_default.ensures (omega arith) (to_z-of_z f.number) (high-kind _ none.0.0.1 none.0.1 none.1)

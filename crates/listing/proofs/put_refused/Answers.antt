@@ -21,7 +21,7 @@ second c =
     omega (arith, first, twenty, counted_place (32 ∷ []) c.args.place c.put_count-end.ensures)
 
 -- the text is as long as it was
-as_long : (c : After-put_count-end) → length c.put_count-end.new.0 ≡ length c.args.text.now
+as_long : (c : After-put_count-end) → length c.put_count-end.new.text ≡ length c.args.text.now
 as_long c = long c.put_count-end.ensures ∙ long c.put_count-next.ensures
 
 pub put_count-next-requires : goal.put_count-next-requires
