@@ -41,51 +41,51 @@ conclude-requires c =
         let f : SFits w32 c.begin-start.result.period = search rules in to_z-of_z f in
     let k = c.requires in
     trial_concludable (c.loop-o.invariant.each k.network (begun_trial c.begin-start.ensures k.known _ begun_same)) c.at_period.ensures c.all-all.ensures
-    c.resume-last.ensures (at_least c.ring-in-loop-o-1.given c.loop-o.invariant.lent.loop) _ c.loop-o.invariant.lent.output
+    c.resume-last.ensures (at_least c.resume-last.auto.ring c.loop-o.invariant.lent.loop) _ c.loop-o.invariant.lent.output
 
 pub returns-in-Ends : goal.returns-in-Ends
 returns-in-Ends c =
     let ceiling_same : to_z w32 (of_z w32 c.args.h.ceiling) ≡ c.args.h.ceiling =
         let e = c.requires.known.held.header.ceiling in
-    let top = c.requires.known.held.legal.ceiling_to in
-    let f : SFits w32 c.args.h.ceiling = omega lin in
-    to_z-of_z f in
+        let top = c.requires.known.held.legal.ceiling_to in
+        let f : SFits w32 c.args.h.ceiling = omega lin in
+        to_z-of_z f in
     let begun_same : to_z w32 (of_z w32 c.begin-start.result.period) ≡ c.begin-start.result.period =
         let f : SFits w32 c.begin-start.result.period = search rules in to_z-of_z f in
     λ M known.
     going_ends c.loop-o.invariant c.at_period.ensures c.all-all.ensures c.resume-last.ensures
-    (at_least c.ring-in-loop-o-1.given c.loop-o.invariant.lent.loop) ceiling_same _ _
-    c.conclude.ensures _ c.o-1.given.1 M (begun_trial c.begin-start.ensures known _ begun_same)
+    (at_least c.resume-last.auto.ring c.loop-o.invariant.lent.loop) ceiling_same _ _
+    c.conclude.ensures _ c.in-Ends.is M (begun_trial c.begin-start.ensures known _ begun_same)
 
 pub loop-o-smaller : goal.loop-o-smaller
 loop-o-smaller c =
     let ceiling_same : to_z w32 (of_z w32 c.args.h.ceiling) ≡ c.args.h.ceiling =
         let e = c.requires.known.held.header.ceiling in
-    let top = c.requires.known.held.legal.ceiling_to in
-    let f : SFits w32 c.args.h.ceiling = omega lin in
-    to_z-of_z f in
-    let next_same : to_z w32 (of_z w32 c.above-1.given.0.0) ≡ c.above-1.given.0.0 =
-        let f : SFits w32 c.above-1.given.0.0 = search rules in to_z-of_z f in
+        let top = c.requires.known.held.legal.ceiling_to in
+        let f : SFits w32 c.args.h.ceiling = omega lin in
+        to_z-of_z f in
+    let next_same : to_z w32 (of_z w32 c.in-Next.above) ≡ c.in-Next.above =
+        let f : SFits w32 c.in-Next.above = search rules in to_z-of_z f in
     let begun_same : to_z w32 (of_z w32 c.begin-start.result.period) ≡ c.begin-start.result.period =
         let f : SFits w32 c.begin-start.result.period = search rules in to_z-of_z f in
     let k = c.requires in
     going_up c.loop-o.invariant c.at_period.ensures c.all-all.ensures c.resume-last.ensures
-    (at_least c.ring-in-loop-o-1.given c.loop-o.invariant.lent.loop) ceiling_same _ _
-    c.conclude.ensures _ _ _ next_same c.above-1.given.1 k.network (begun_trial c.begin-start.ensures k.known _ begun_same)
+    (at_least c.resume-last.auto.ring c.loop-o.invariant.lent.loop) ceiling_same _ _
+    c.conclude.ensures _ _ _ next_same c.in-Next.is k.network (begun_trial c.begin-start.ensures k.known _ begun_same)
 
 pub loop-o-preserved : goal.loop-o-preserved
 loop-o-preserved c =
     let ceiling_same : to_z w32 (of_z w32 c.args.h.ceiling) ≡ c.args.h.ceiling =
         let e = c.requires.known.held.header.ceiling in
-    let top = c.requires.known.held.legal.ceiling_to in
-    let f : SFits w32 c.args.h.ceiling = omega lin in
-    to_z-of_z f in
-    let next_same : to_z w32 (of_z w32 c.above-1.given.0.0) ≡ c.above-1.given.0.0 =
-        let f : SFits w32 c.above-1.given.0.0 = search rules in to_z-of_z f in
+        let top = c.requires.known.held.legal.ceiling_to in
+        let f : SFits w32 c.args.h.ceiling = omega lin in
+        to_z-of_z f in
+    let next_same : to_z w32 (of_z w32 c.in-Next.above) ≡ c.in-Next.above =
+        let f : SFits w32 c.in-Next.above = search rules in to_z-of_z f in
     let begun_same : to_z w32 (of_z w32 c.begin-start.result.period) ≡ c.begin-start.result.period =
         let f : SFits w32 c.begin-start.result.period = search rules in to_z-of_z f in
     let k = c.requires in
     going_on c.loop-o.invariant c.at_period.ensures c.all-all.ensures c.resume-last.ensures
-    (at_least c.ring-in-loop-o-1.given c.loop-o.invariant.lent.loop) ceiling_same _ _
-    c.conclude.ensures _ _ _ next_same c.above-1.given.1 k.network (begun_trial c.begin-start.ensures k.known _ begun_same) _ _
-    c.a-1.given.1 c.b-1.given.1 c.preds-in-loop-o-1.given c.ring-in-loop-o-1.given
+    (at_least c.resume-last.auto.ring c.loop-o.invariant.lent.loop) ceiling_same _ _
+    c.conclude.ensures _ _ _ next_same c.in-Next.is k.network (begun_trial c.begin-start.ensures k.known _ begun_same) _ _
+    c.a-1.given.1 c.b-1.given.1 c.resume-last.auto.preds c.resume-last.auto.ring
