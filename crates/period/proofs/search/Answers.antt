@@ -23,11 +23,13 @@ loop_alone-requires c =
     let few : c.args.h.registers ≤ 256 =
         let e = c.requires.held.header.registers in let t = c.requires.held.legal.registers_to in omega arith in
     let short = c.look-seen.ensures.room in
-    let room = c.requires.output in (
-      seen_nameable c.requires.held c.fixed-fixed.ensures _ c.look-seen.result.entries (c.look-seen.ensures.circled some) short
-          (at_least c.ring-2-1.given few),
-      omega arith,
-    )
+    let room = c.requires.output in
+    record {
+      nameable =
+          seen_nameable c.requires.held c.fixed-fixed.ensures _ c.look-seen.result.entries (c.look-seen.ensures.circled some) short
+          (at_least c.look-seen.auto.ring few);
+      entries_in_bounds = omega arith;
+    }
 
 pub returns-then-entries-ne0 : goal.returns-then-entries-ne0
 returns-then-entries-ne0 c =
@@ -44,9 +46,9 @@ climb-requires c =
       network = c.requires.network;
       known = seen_known c.requires.held c.fixed-fixed.ensures (c.look-seen.ensures.scheduled none);
       lent =
-          seen_lent c.requires.held c.fixed-fixed.ensures c.look-seen.ensures none (c.a-2-1.given ∙ length-take-le _ _ few)
-          (c.b-2-1.given ∙ length-take-le _ _ few) (c.preds-2-1.given ∙ length-take-le _ _ few)
-          (at_least c.ring-2-1.given few) c.requires.output;
+          seen_lent c.requires.held c.fixed-fixed.ensures c.look-seen.ensures none (c.look-seen.auto.a ∙ length-take-le _ _ few)
+          (c.look-seen.auto.b ∙ length-take-le _ _ few) (c.look-seen.auto.preds ∙ length-take-le _ _ few)
+          (at_least c.look-seen.auto.ring few) c.requires.output;
     }
 
 pub returns : goal.returns
