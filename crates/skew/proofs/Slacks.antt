@@ -105,7 +105,7 @@ no_room_iff N P x from s l i =
 -- the loop that is shown does
 shown_leaves : (N : Network) (P : ℕ) (x : ℕ → ℤ) (l : List Rule) → Answer N P x → Shown N P l → N.floor < P → LeavesNoRoom N P x l
 shown_leaves N P x [] a s h = absurd (omega arith)
-shown_leaves N P x (r ∷ l) a s h = (no_room_iff N P x (omega arith) a.schedule (r ∷ l) s.1.is_Loop).1 s.1.contradicts
+shown_leaves N P x (r ∷ l) a s h = (no_room_iff N P x (omega arith) a.schedule (r ∷ l) s.1.is_loop).1 s.1.contradicts
 
 -- RULES 15.7: "where an answer's period is above its floor, the slacks of the rules of the loop that is shown, at the returned period and latencies,
 -- add up to less than the number of the loop's setup rules"
