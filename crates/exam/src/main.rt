@@ -12,8 +12,18 @@
 //
 // Where the input fails or ends within a request, where a request is of no known sort and where an answer cannot be written, it says so on
 // standard error and stops.
-use libc::{STDERR_FILENO, STDIN_FILENO, STDOUT_FILENO};
+#![tactic(auto)]
+
+use std::io::{Read, Stdin};
+
 use paper::Reply;
+
+// The standard streams by their numbers.
+const STDIN_FILENO: i32 = 0;
+
+const STDOUT_FILENO: i32 = 1;
+
+const STDERR_FILENO: i32 = 2;
 
 const FILE_ROOM: usize = 65536;
 
@@ -130,17 +140,17 @@ fn serve_question(file: &mut [u8]) -> bool {
     ask(&mut file[..length], &head)
 }
 
-// One request. A read at the end of the input answers 0, and one that fails answers below that.
-fn serve(file: &mut [u8], out: &mut [u8]) -> bool {
+// One request. A read at the end of the input gives no byte.
+fn serve(input: &mut Stdin, file: &mut [u8], out: &mut [u8]) -> bool {
     let mut tag = [0u8; 1];
-    let got = libc::read(STDIN_FILENO, &mut tag);
-    if got < 0 {
-        return stop(
-            b"exam: standard input cannot be read; a non-blocking one cannot be waited for\n",
-        );
-    }
-    if got == 0 {
-        return false;
+    match input.read(&mut tag) {
+        Err(_) => {
+            return stop(
+                b"exam: standard input cannot be read; a non-blocking one cannot be waited for\n",
+            );
+        }
+        Ok(0) => return false,
+        Ok(_) => {}
     }
     if tag[0] == b'S' {
         return serve_schedule(file, out);
@@ -152,15 +162,16 @@ fn serve(file: &mut [u8], out: &mut [u8]) -> bool {
 }
 
 // Requests until the input ends, and never more than a 64-bit count of them.
-fn serve_all(file: &mut [u8], out: &mut [u8]) {
+fn serve_all(input: &mut Stdin, file: &mut [u8], out: &mut [u8]) {
     let mut turns = u64::MAX;
-    while turns > 0 && serve(file, out) {
+    while turns > 0 && serve(input, file, out) {
         turns -= 1;
     }
 }
 
-fn main() {
+fn main(rt: HostRuntime) {
+    let mut input = rt.stdin();
     let mut file = [0u8; FILE_ROOM];
     let mut out = [0u8; OUT_ROOM];
-    serve_all(&mut file, &mut out);
+    serve_all(&mut input, &mut file, &mut out);
 }

@@ -6,7 +6,7 @@ use mathlib.Core.Bool.{true, false}
 use mathlib.Core.List.{List}
 use Prim.Native.Nat.{ℕ, zero, suc, ◌≤◌, ◌<◌}
 use native.Mathlib.Omega.{arith}
-use lib.IntN.{ℤ, ◌+ℤ◌}
+use lib.IntN.{ℤ}
 use lib.Signed.{lt_z, ◌≤ℤ◌}
 use Rattle.whole.proofs.Lin.{lin, plus}
 use Rattle.loops.specs.Arrows.{Arrows, Sound, Schedule, tail, head, amount}

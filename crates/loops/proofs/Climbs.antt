@@ -1,14 +1,13 @@
 -- The climb over the periods of a family: where it may begin, and each way that a trial ends. Rests on `Laid` and `Families`.
-use mathlib.Core.Path.{◌≡◌, refl, sym}
+use mathlib.Core.Path.{◌≡◌, refl}
 use mathlib.Core.List.{List, [], ◌∷◌, map}
 use Prim.Native.Nat.{ℕ, ◌-◌, ◌≤◌, ◌<◌}
 use native.Mathlib.Omega.{arith}
 use lib.ListN.{take}
-use lib.IntN.{ℤ, pos}
+use lib.IntN.{ℤ}
 use Rattle.paper.specs.Chains.{All, Listed}
 use Rattle.loops.specs.Arrows.{Arrows, Least, Contradicts, tail, head}
 use Rattle.loops.specs.Webs.{Scheduled}
-use Rattle.loops.specs.Webs as webs
 use Rattle.loops.specs.Family.{Family, Lawful, Enumerates, Lays, web_at, Refutes, Best, ShownFrom}
 use Rattle.loops.specs.Climbing.{Raises, Climbing}
 use Rattle.loops.proofs.Laid.{laid_least, laid_contradicts, laid_listed}

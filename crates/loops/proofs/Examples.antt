@@ -7,7 +7,7 @@ use Prim.Native.Nat.{ℕ, zero, suc, ◌-◌, ◌<◌}
 use native.Mathlib.Omega.{arith}
 use lib.IntN.{ℤ, pos, negsuc}
 use Rattle.whole.proofs.Lin.{lin}
-use Rattle.loops.specs.Arrows.{Arrows, Sound, Lows, High, Highs, tail, head}
+use Rattle.loops.specs.Arrows.{Arrows, Sound, Lows, Highs, tail, head}
 use Rattle.loops.specs.Model.{table, pass, step, round, worth, rooted, rooted_below, settled, back, trail, around, lowest, stray_below}
 use Rattle.loops.specs.Model.{first_time, first_row, first_pred, first_preds, Ending, Rested, Circled, relax}
 

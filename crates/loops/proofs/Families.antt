@@ -1,18 +1,18 @@
 -- The laws of a family: a longer period takes no schedule away, a loop that contradicts itself does so at every shorter period, and a
 -- schedule of the fixed arrows is one of all arrows at some period. So the climb's certificate: a loop at the period before shows that no
 -- smaller period has a schedule. Rests on `Webs`.
-use mathlib.Core.Path.{◌≡◌, refl, sym, subst}
-use mathlib.Core.Logic.{◌⊎◌, inl, inr, ⊎_elim}
-use mathlib.Core.List.{List, [], ◌∷◌, map}
-use Prim.Native.Nat.{ℕ, zero, suc, max, ◌+◌, ◌-◌, ◌≤◌, ◌<◌}
+use mathlib.Core.Path.{◌≡◌, refl, subst}
+use mathlib.Core.Logic.{◌⊎◌, inl, inr}
+use mathlib.Core.List.{List, [], ◌∷◌}
+use Prim.Native.Nat.{ℕ, zero, suc, ◌+◌, ◌-◌, ◌≤◌, ◌<◌}
 use native.Mathlib.Omega.{arith}
-use lib.IntN.{ℤ, pos, ◌+ℤ◌, ◌-ℤ◌}
-use lib.Signed.{◌≤ℤ◌, ◌<ℤ◌}
+use lib.IntN.{ℤ, ◌+ℤ◌, ◌-ℤ◌}
+use lib.Signed.{◌≤ℤ◌}
 use Rattle.whole.specs.Sums.{total}
 use Rattle.whole.proofs.Lin.{lin, negs}
 use Rattle.paper.specs.Chains.{All, Listed}
 use Rattle.paper.proofs.LoopLaws.{all_map}
-use Rattle.loops.specs.Webs.{Web, Schedule, Scheduled, Least, Contradicts, Within}
+use Rattle.loops.specs.Webs.{Schedule, Scheduled, Least, Contradicts, Within}
 use Rattle.loops.specs.Family.{Family, Lawful, Enumerates, web_of, web_at, fixed_graph, Refutes, Never, NoneTo, Best, ShownFrom, Always}
 use Rattle.loops.proofs.Below.{below_next}
 use Rattle.loops.proofs.Webs.{schedule_no_loop, within_schedule}

@@ -1,15 +1,15 @@
 -- A graph in memory: where each place holds an arrow of the graph and each arrow of the graph has a place, the schedules of the arrows in
 -- memory are those of the graph, and their loops are loops of the graph. Rests on `Webs`.
-use mathlib.Core.Path.{◌≡◌, refl, sym, ap, ◌∙◌, subst}
+use mathlib.Core.Path.{◌≡◌, refl, subst}
 use mathlib.Core.Logic.{◌↔◌}
 use mathlib.Core.List.{List, map}
-use Prim.Native.Nat.{ℕ, ◌≤◌, ◌<◌}
+use Prim.Native.Nat.{ℕ, ◌<◌}
 use native.Mathlib.Omega.{arith}
 use lib.IntN.{ℤ, pos, ◌+ℤ◌}
 use lib.Signed.{◌≤ℤ◌}
 use Rattle.whole.proofs.Lin.{lin}
 use Rattle.paper.specs.Chains.{Listed}
-use Rattle.loops.specs.Arrows.{Arrows, web, tail, head, amount}
+use Rattle.loops.specs.Arrows.{Arrows, web, tail, head}
 use Rattle.loops.specs.Webs.{Schedule, Least, Contradicts, Within}
 use Rattle.loops.specs.Family.{Graph, Enumerates, Lays, web_of}
 use Rattle.loops.specs.Model.{table}

@@ -1,6 +1,6 @@
 -- Whether there is a schedule, for every family that is laid out: at a period, at any period at all, and which is the smallest. Each time the
 -- model is run on the arrows; it ends with a least schedule or with a loop. Rests on `Relax`, `Laid` and `Families`.
-use mathlib.Core.Path.{◌≡◌, refl, sym, ap, ◌∙◌}
+use mathlib.Core.Path.{◌≡◌, refl, ap, ◌∙◌}
 use mathlib.Core.Logic.{◌⊎◌, inl, inr, ◌↔◌}
 use mathlib.Core.List.{List, [], ◌∷◌, map}
 use Prim.Native.Nat.{ℕ, zero, suc, ◌+◌, ◌-◌, ◌≤◌, ◌<◌}
@@ -9,8 +9,8 @@ use native.Mathlib.Decide.{dec_lt, dec_le}
 use lib.IntN.{ℤ, pos}
 use Rattle.whole.proofs.Lin.{lin, negs, below}
 use Rattle.paper.specs.Chains.{Listed}
-use Rattle.loops.specs.Arrows.{Arrows, Sound, Lows, Highs, tail, head, amount}
-use Rattle.loops.specs.Webs.{Schedule, Scheduled, Least, Contradicts}
+use Rattle.loops.specs.Arrows.{Arrows, Sound, Lows, Highs}
+use Rattle.loops.specs.Webs.{Scheduled, Least, Contradicts}
 use Rattle.loops.specs.Family.{Graph, Family, Lawful, Enumerates, Framed, Lays, LaidOut, web_of, web_at, fixed_graph, Refutes, Always, Never, NoneTo, Best, ShownFrom}
 use Rattle.loops.specs.Model.{at}
 use Rattle.loops.proofs.Greatest.{greatest, greatest_over}

@@ -4,7 +4,6 @@
 use mathlib.Core.Path.{◌≡◌, refl, sym, ◌∙◌}
 use mathlib.Core.List.{List}
 use Prim.Native.Nat.{ℕ, ◌-◌, ◌<◌}
-use native.Mathlib.Omega.{arith}
 use lib.IntN.{ℤ, pos, negsuc, ◌+ℤ◌}
 use lib.Signed.{◌<ℤ◌}
 use Rattle.whole.specs.Sums.{total}

@@ -3,14 +3,14 @@
 use mathlib.Core.Path.{◌≡◌, refl}
 use mathlib.Core.Logic.{◌⊎◌, inl, inr, ◌↔◌}
 use mathlib.Core.List.{List, [], ◌∷◌}
-use Prim.Native.Nat.{ℕ, suc, ◌+◌, ◌≤◌, ◌<◌}
+use Prim.Native.Nat.{ℕ, suc, ◌≤◌}
 use native.Mathlib.Omega.{arith}
 use lib.IntN.{ℤ, pos, ◌-ℤ◌}
 use lib.Signed.{◌≤ℤ◌}
 use Rattle.whole.proofs.Lin.{lin, above, minus, negs}
 use Rattle.paper.specs.Network.{Network}
 use Rattle.paper.specs.Chains.{All}
-use Rattle.paper.specs.Rules.{Rule, Setup, Hold, Low, High, Exists, base, amount}
+use Rattle.paper.specs.Rules.{Rule, Setup, Hold, Low, High, base, amount}
 use Rattle.paper.specs.Schedule.{Schedule, IsLoop, Contradicts, Refutes, Answer, Shown, setups}
 use Rattle.paper.specs.Refusals.{Scheduled, NoPeriod, NoneToCeiling}
 use Rattle.paper.proofs.RuleLaws.{arrow_is_rule, amount_falls}

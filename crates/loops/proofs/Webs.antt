@@ -1,12 +1,11 @@
 -- What is true of arrows of any kind. Fewer arrows, or arrows that ask less, lose no schedule and gain no loop; and no schedule stands beside
 -- a loop that contradicts itself. Rests on `Renamed`.
-use mathlib.Core.Path.{◌≡◌, sym}
 use mathlib.Core.List.{List, [], ◌∷◌, map}
-use Prim.Native.Nat.{ℕ, ◌≤◌}
-use lib.IntN.{ℤ, pos, ◌+ℤ◌}
+use Prim.Native.Nat.{ℕ}
+use lib.IntN.{ℤ, ◌+ℤ◌}
 use lib.Signed.{◌≤ℤ◌}
 use Rattle.whole.specs.Sums.{total}
-use Rattle.whole.proofs.Lin.{lin, plus}
+use Rattle.whole.proofs.Lin.{lin}
 use Rattle.paper.specs.Chains.{All, Listed}
 use Rattle.paper.proofs.LoopLaws.{all_map, loop_binds}
 use Rattle.loops.specs.Webs.{Web, Schedule, Contradicts, Within}

@@ -1,5 +1,5 @@
 -- What code over arrows asks of the arrays that it is lent, so that no sum leaves its width. Every accepted network meets it.
-use Rattle.std.specs.Prelude.{◌≡◌, List, ℕ, ◌≤◌, ◌<◌, length, ℤ, pos, negsuc}
+use Rattle.std.specs.Prelude.{◌≡◌, List, ℕ, ◌≤◌, ◌<◌, length, ℤ, pos}
 use Rattle.whole.specs.Between.{Between, far_below}
 use Rattle.paper.specs.Limits.{most_registers}
 use Rattle.loops.specs.Arrows.{Arrows, Sound, amount}

@@ -15,7 +15,6 @@ use Rattle.whole.proofs.Lin.{lin, minus, le_goal, le-true, true_not_false}
 use Rattle.whole.specs.Four.{number_at}
 pub use Rattle.whole.specs.Between.{Between}
 pub use Rattle.paper.specs.Legal.{Legal}
-use Rattle.paper.specs.Network.{Network}
 use Rattle.paper.specs.File.{natural, marked, within, windowed, counted, sized, ranged, registers, paths, register_place, path_place, register_ok, path_ok, network_of}
 use Rattle.paper.specs.Table.{Fails, Lowest}
 use Rattle.paper.specs.Refusals.{Accepted}

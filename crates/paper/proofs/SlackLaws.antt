@@ -4,13 +4,13 @@
 use mathlib.Core.Path.{◌≡◌, refl, ap₂, ◌∙◌}
 use mathlib.Core.Logic.{◌↔◌}
 use mathlib.Core.List.{List, [], ◌∷◌}
-use Prim.Native.Nat.{ℕ, zero, suc, ◌*◌, ◌-◌, ◌<◌}
+use Prim.Native.Nat.{ℕ, zero, suc, ◌-◌, ◌<◌}
 use native.Mathlib.Omega.{arith}
 use native.Mathlib.Nat.{mul-suc}
 use lib.IntN.{ℤ, pos, negsuc, ◌+ℤ◌, ◌-ℤ◌}
 use lib.Signed.{◌≤ℤ◌, ◌<ℤ◌}
 use Rattle.whole.specs.Sums.{total}
-use Rattle.whole.proofs.Lin.{lin, plus, minus, negs}
+use Rattle.whole.proofs.Lin.{lin, plus, minus}
 use Rattle.paper.specs.declared.Delay.{Delay}
 use Rattle.paper.specs.declared.Reply.TheVariants as reply
 use Rattle.paper.specs.Network.{Network}

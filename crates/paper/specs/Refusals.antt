@@ -1,5 +1,5 @@
 -- Numbers returned, 1 to 9: the rows of the tables (RULES 6.2).
-use Rattle.std.specs.Prelude.{List, [], ◌∷◌, ◌++◌, ℕ, ◌+◌, ◌*◌, ◌≤◌, ℤ, leb}
+use Rattle.std.specs.Prelude.{List, [], ◌∷◌, ◌++◌, ℕ, ◌≤◌, ℤ, leb}
 use Rattle.paper.specs.Network.{Network}
 use Rattle.paper.specs.Schedule.{Schedule}
 use Rattle.paper.specs.File.{headed, counted, sized, ranged, registers, paths, register_ok, path_ok, network_of}

@@ -1,4 +1,6 @@
 // The public types that the paper's definitions speak of, and their numbers (codes). The definitions are in specs/.
+#![tactic(auto)]
+
 pub mod codes;
 pub mod limits;
 

@@ -1,5 +1,6 @@
 // The records of a file as they stand in it, whatever they announce: read through a reader, which holds the lent file and a place in it.
 #![tactic(auto)]
+
 ghost use Rattle.std.specs.Prelude.{◌+◌, ◌≤◌, length};
 ghost use Rattle.records.specs.Records.{IsRecord};
 

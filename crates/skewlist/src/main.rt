@@ -1,15 +1,24 @@
 // Lists the answer to a network file: the file comes on standard input, the text goes to standard output. Where the one cannot be read or
 // the other not be written, it says so on standard error.
+#![tactic(auto)]
 ghost use Rattle.std.specs.Prelude.{◌+◌, ◌*◌, ◌≤◌, ◌<◌, length};
 ghost use Rattle.io.specs.Counts.{IsPrefixLen};
 ghost use Rattle.paper.specs.Limits.{most_registers, most_paths};
 ghost use Rattle.skewlist.specs.Listing.{Listing, CeilingKnown, SameText};
 ghost use Rattle.listing.specs.Listable.{text_room};
 
-use libc::{STDERR_FILENO, STDIN_FILENO, STDOUT_FILENO};
+use std::io::{Read, Stdin};
+
 use listing::TEXT_ROOM;
 use paper::Outcome;
 use paper::limits::{MOST_PATHS, MOST_REGISTERS};
+
+// The standard streams by their numbers.
+const STDIN_FILENO: i32 = 0;
+
+const STDOUT_FILENO: i32 = 1;
+
+const STDERR_FILENO: i32 = 2;
 
 // One byte more than the longest legal file. A file that fills this room is too long for any network, whatever follows, and is refused by
 // what its first bytes say, as the whole of it would be: `cut_refused` (paper/proofs/Cut.antt) and, of the listing, `cut_listed`
@@ -55,20 +64,23 @@ fn show(file: &[u8], out: &mut [u8], text: &mut [u8])
     }
 }
 
-// Whether standard input, which gave nothing more, is at its end. A read there answers 0, and one that fails answers below that. One that
-// answers more found the input late: it is non-blocking, and had nothing to give a moment before.
-fn ended() -> bool {
+// Whether standard input, which gave nothing more, is at its end. A read there gives no byte, and may fail elsewhere. One that gives a byte
+// found the input late: it is non-blocking, and had nothing to give a moment before.
+fn ended(input: &mut Stdin) -> bool {
     let mut more = [0u8; 1];
-    libc::read(STDIN_FILENO, &mut more) == 0
+    match input.read(&mut more) {
+        Ok(got) => got == 0,
+        Err(_) => false,
+    }
 }
 
 // Where the file's room is filled, what follows in the input is not read.
-fn serve(file: &mut [u8], out: &mut [u8], text: &mut [u8])
+fn serve(input: &mut Stdin, file: &mut [u8], out: &mut [u8], text: &mut [u8])
     requires most_paths_in_bounds { 22 + 18 * (most_registers + most_paths) < length file.old }
     requires text_room_in_bounds { text_room ≤ length text.old }
 {
     let got = io::read_full(STDIN_FILENO, file);
-    if got < file.len() && !ended() {
+    if got < file.len() && !ended(input) {
         io::write_all(
             STDERR_FILENO,
             b"skewlist: standard input cannot be read; a non-blocking one cannot be waited for\n",
@@ -78,9 +90,10 @@ fn serve(file: &mut [u8], out: &mut [u8], text: &mut [u8])
     show(&file[..got], out, text);
 }
 
-fn main() {
+fn main(rt: HostRuntime) {
+    let mut input = rt.stdin();
     let mut file = [0u8; FILE_ROOM];
     let mut out = [0u8; ANSWER_ROOM];
     let mut text = [0u8; TEXT_ROOM];
-    serve(&mut file, &mut out, &mut text);
+    serve(&mut input, &mut file, &mut out, &mut text);
 }

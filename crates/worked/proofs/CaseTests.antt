@@ -6,22 +6,21 @@ use mathlib.Core.List.{List, [], ◌∷◌}
 use mathlib.Core.Bool.{Bool, true}
 use Prim.Native.Nat.{ℕ, zero, suc, pred, ◌+◌, ◌-◌, ◌*◌, ◌≤◌, ◌<◌}
 use native.Mathlib.Omega.{arith}
-use lib.IntN.{ℤ, pos, neg_ℤ}
+use lib.IntN.{ℤ, pos}
 use lib.Signed.{◌≤ℤ◌}
 use lib.ListN.{length, get_or}
 use lib.Dec.{leb}
 use borrow.Author.Tests.{le-leb}
-use Rattle.whole.specs.Four.{word_at, signed_of, number_at, word_of, bytes_of, four}
 use Rattle.whole.specs.Sums.{total}
 use Rattle.whole.proofs.Lin.{lin}
 use Rattle.paper.specs.Network.{Network}
 use Rattle.paper.specs.Rules.{Rule, Setup, Hold, Low, High, Exists, Holds, tail, head, amount, slack}
 use Rattle.paper.specs.Chains.{All, Chain, Once, Loop, Listed}
 use Rattle.paper.specs.Schedule.{Schedule, Contradicts, setups, Answer, Refutes, Shown}
-use Rattle.paper.specs.File.{marked, within, windowed, headed, counted, sized, ranged, registers, paths, register_ok, path_ok, network_of}
+use Rattle.paper.specs.File.{headed, counted, sized, ranged, registers, paths, register_ok, path_ok, network_of}
 use Rattle.paper.specs.Table.{Fails, Lowest, Given}
 use Rattle.paper.specs.Refusals.{faults, refusals, schedule_rows, Accepted}
-use Rattle.worked.specs.Cases.{Expected, answered, refused_8, refused_9, Case, Comes, number_of, Worked, file_of, cases}
+use Rattle.worked.specs.Cases.{Expected, answered, refused_8, refused_9, Case, Comes, number_of, Worked, file_of}
 use Rattle.paper.proofs.Legal.{accepted_legal}
 use Rattle.paper.proofs.RuleLaws.{met_is_rule}
 use Rattle.paper.proofs.LoopLaws.{contradicts_always, chain_binds_schedule, no_schedule}

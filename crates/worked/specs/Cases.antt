@@ -1,6 +1,6 @@
 -- Networks worked by hand: the paper's eleven cases (RULES 11.5), as one table. A row writes its network in the paper's own terms and says
 -- what comes of it; `Worked` says that the definitions agree, and `proofs/WorkedCases.antt` shows it for the whole table.
-use Rattle.std.specs.Prelude.{◌≡◌, List, [], ◌∷◌, ◌++◌, ℕ, ◌+◌, ◌*◌, ◌≤◌, ℤ, pos, neg_ℤ, length, get_or}
+use Rattle.std.specs.Prelude.{◌≡◌, List, [], ◌∷◌, ◌++◌, ℕ, ◌≤◌, ℤ, pos, neg_ℤ, length, get_or}
 use Rattle.whole.specs.Four.{four}
 use Rattle.paper.specs.Network.{Network}
 use Rattle.paper.specs.Rules.{Rule, Setup, Hold, High}

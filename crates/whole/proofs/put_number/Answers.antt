@@ -1,5 +1,4 @@
 -- `whole::put_number` meets its contract: the four bytes of the number without sign that stands for the number.
-use Rattle.std.proofs.Common.{arith}
 use mir.Facts.{to_z-of_z}
 use Rattle.whole.specs.Four.{four}
 use Rattle.whole.proofs.put_number.Goals as goal
