@@ -2,6 +2,7 @@
 // stand at the front of the output, and every byte past the last one written keeps its value. The loop is given by the places of its
 // arrows, and the kind and the number at a place name the rule there.
 #![tactic(auto)]
+
 ghost use Rattle.std.specs.Prelude.{map, ◌+◌, ◌*◌, ◌≤◌, length, take};
 ghost use Rattle.paper.specs.Output.{LoopAlone};
 ghost use Rattle.loops.specs.Names.{named};

@@ -2,6 +2,7 @@
 // head, and its amount. Where a rule stands is said by `places` alone, but that `at_period` counts on from `fixed`. What a setup rule's
 // amount is without the period is kept in an array of its own, so that another period costs one subtraction a path.
 #![tactic(auto)]
+
 ghost use Rattle.paper.specs.File.{network_of};
 ghost use Rattle.loops.specs.Layout.{fixed_places};
 ghost use Rattle.arrows.specs.Filled.{lists, Filled, Weighable, Weighed};

@@ -1,6 +1,7 @@
 // The search for a circle among the preds, from a register that is not grounded, and the arrows of the circle that it found. Nothing here
 // writes a pred. Each walk takes at most as many steps as there are registers.
 #![tactic(auto)]
+
 ghost use Rattle.std.specs.Prelude.{◌≡◌, ◌++◌, ◌<◌, length, get_or, drop};
 ghost use Rattle.loops.specs.Arrows.{arrows};
 ghost use Rattle.loops.specs.Model.{back, trail, rooted, lowest, around};

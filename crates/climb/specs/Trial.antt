@@ -1,5 +1,5 @@
 -- One trial of a period, and the climb from trial to trial.
-use Rattle.std.specs.Prelude.{◌≡◌, List, ℕ, ◌+◌, ◌*◌, ◌≤◌, length, ℤ}
+use Rattle.std.specs.Prelude.{◌≡◌, List, ℕ, ◌≤◌, length, ℤ}
 use Rattle.paper.specs.Network.{Network}
 use Rattle.paper.specs.declared.Outcome.{Outcome}
 use Rattle.loops.specs.Arrows.{arrows}

@@ -1,5 +1,6 @@
 // The climb to the smallest period: from a period below which none has a schedule, each loop that is found leads to the next period to try.
 #![tactic(auto)]
+
 ghost use Rattle.climb.specs.Trial.{Climbable, Climbed};
 
 mod begin;

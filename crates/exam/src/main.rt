@@ -14,9 +14,8 @@
 // standard error and stops.
 #![tactic(auto)]
 
-use std::io::{Read, Stdin};
-
 use paper::Reply;
+use std::io::{Read, Stdin};
 
 // The standard streams by their numbers.
 const STDIN_FILENO: i32 = 0;

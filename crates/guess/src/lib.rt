@@ -1,6 +1,7 @@
 // A loop that may show that a period is too short: one of the heaviest arrow into each register, of those that know the period. Nothing that
 // is promised rests on which loop that is: another one, or none, only makes the climb longer or shorter.
 #![tactic(auto)]
+
 ghost use Rattle.std.specs.Prelude.{◌≡◌, ◌≤◌, ◌<◌, length};
 ghost use Rattle.loops.specs.Arrows.{arrows};
 ghost use Rattle.guess.specs.Guessing.{Cleared, Chosen, Choosable, Guessable, Guessed};

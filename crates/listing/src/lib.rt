@@ -1,6 +1,7 @@
 // The text of a listing, from an outcome, the network's ceiling and the answer's bytes, into a lent buffer. Each writer puts its bytes at a
 // place and returns the place behind them; its contract is `Ended`, of the crate text.
 #![tactic(auto)]
+
 ghost use Rattle.std.specs.Prelude.{◌≡◌, ◌++◌, ◌+◌, ◌*◌, ◌≤◌, pos, length};
 ghost use Rattle.whole.specs.Four.{number_at};
 ghost use Rattle.paper.specs.Output.{Front};

@@ -1,6 +1,7 @@
 // The look for refusal 8. The rules that do not know the period are relaxed by themselves: a loop of them leaves no period a schedule. Where
 // they rest, their row and its preds are tight for all rules at every period, so that each trial of a period may start from a copy.
 #![tactic(auto)]
+
 ghost use Rattle.loops.specs.Arrows.{arrows};
 ghost use Rattle.look.specs.Firsts.{FirstRoom, Firsts, Keepable, Kept};
 ghost use Rattle.look.specs.Looking.{Lookable, Looked};

@@ -1,6 +1,6 @@
 -- What a loop that contradicts itself at a period asks of the next one. Its arrows are the first entries of a list of places; of what stands
 -- at a place only the amount and the kind are read.
-use Rattle.std.specs.Prelude.{◌≡◌, List, map, ℕ, ◌≤◌, ◌<◌, length, get_or, take, ℤ, pos, ◌+ℤ◌, ◌≤ℤ◌, ◌<ℤ◌}
+use Rattle.std.specs.Prelude.{◌≡◌, List, map, ℕ, ◌≤◌, ◌<◌, length, get_or, take, ℤ, pos, ◌+ℤ◌, ◌<ℤ◌}
 use Rattle.whole.specs.Sums.{total}
 use Rattle.whole.specs.Rounding.{round_up}
 use Rattle.paper.specs.Chains.{All}

@@ -1,6 +1,7 @@
 // What a loop that contradicts itself asks of the next period. Its arrows are listed by place. With k setup rules its sum falls by k for each
 // unit of the period, so that what the sum is over, shared among the k and rounded up, is by how much the period has to rise.
 #![tactic(auto)]
+
 ghost use Rattle.std.specs.Prelude.{◌≡◌, List, ℕ, length, take};
 ghost use Rattle.needs.specs.Raising.{Places, sum_at, setups_at, Raisable, Raised};
 

@@ -1,7 +1,7 @@
 -- Numbers that count, as the code casts them: a number from 0 up keeps its value in 64 bits, and one below 0 counts nothing. Rests on
 -- the machine's casts.
 use mathlib.Core.Path.{◌≡◌, refl}
-use Prim.Native.Nat.{ℕ, ◌≤◌, ◌<◌}
+use Prim.Native.Nat.{ℕ, ◌≤◌}
 use native.Mathlib.Omega.{arith}
 use lib.IntN.{ℤ, pos, negsuc, nat_abs, ◌-ℤ◌}
 use lib.Signed.{◌≤ℤ◌, ◌<ℤ◌, non_neg}

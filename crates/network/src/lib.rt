@@ -1,6 +1,7 @@
 // The network file in code: whether it is accepted, which fault comes first where it is not, and its records as structs by value. Each
 // contract cites a definition of the paper, or one of specs/ that says a record's fields are those of the network that the file means.
 #![tactic(auto)]
+
 ghost use Rattle.std.specs.Prelude.{◌≡◌, true};
 ghost use Rattle.paper.specs.File.{counted, sized};
 ghost use Rattle.paper.specs.Outcome.{Judged};

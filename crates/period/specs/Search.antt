@@ -1,5 +1,5 @@
 -- The search over rules that are lent: the look for refusal 8, then the climb.
-use Rattle.std.specs.Prelude.{List, ℕ, ◌+◌, ◌*◌, ◌≤◌, length, ℤ}
+use Rattle.std.specs.Prelude.{List, ℕ, ◌≤◌, length, ℤ}
 use Rattle.paper.specs.Network.{Network}
 use Rattle.paper.specs.declared.Outcome.{Outcome}
 use Rattle.network.specs.declared.Header.{Header}

@@ -1,6 +1,7 @@
 // The search for the smallest period: first a look at the rules that do not know it, then the climb. All memory is the module's own: no heap,
 // no recursion.
 #![tactic(auto)]
+
 ghost use Rattle.std.specs.Prelude.{◌+◌, ◌*◌, ◌≤◌, length};
 ghost use Rattle.paper.specs.File.{network_of};
 ghost use Rattle.paper.specs.Refusals.{Accepted};

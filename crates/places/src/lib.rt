@@ -1,6 +1,7 @@
 // Where the rules stand in memory, of n registers and m paths: each place has its function here, and no other crate works one out, but
 // that `arrows::at_period` counts on from `fixed`. Their definitions are those of loops/specs/Layout.antt.
 #![tactic(auto)]
+
 ghost use Rattle.std.specs.Prelude.{◌≡◌, ◌<◌};
 ghost use Rattle.loops.specs.Layout.{low_place, high_place, hold_place, setup_place, fixed_places, all_places};
 ghost use Rattle.places.specs.Few.{Few, HasWindow};

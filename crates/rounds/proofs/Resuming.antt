@@ -1,8 +1,7 @@
 -- For callers: where a relaxation may begin. The first row, the row that a relaxation of the first arrows left, and any ready row. Rests on
 -- `First` and `Begun` of `loops`.
-use mathlib.Core.Path.{◌≡◌, sym, ◌∙◌}
 use mathlib.Core.List.{List}
-use Prim.Native.Nat.{ℕ, zero, suc, ◌≤◌, ◌<◌}
+use Prim.Native.Nat.{ℕ, zero, suc, ◌<◌}
 use native.Mathlib.Omega.{arith}
 use lib.IntN.{ℤ, negsuc}
 use lib.Signed.{◌≤ℤ◌}

@@ -7,12 +7,12 @@ use Prim.Native.Nat.{ℕ, zero, suc, ◌-◌, ◌*◌, ◌≤◌, ◌<◌}
 use native.Mathlib.Omega.{arith}
 use native.Mathlib.Nat.{mul-le-mul_right}
 use lib.ListN.{length}
-use lib.IntN.{ℤ, pos, negsuc}
+use lib.IntN.{ℤ, pos}
 use lib.Signed.{◌≤ℤ◌}
 use Rattle.whole.proofs.Lin.{lin}
 use Rattle.loops.specs.Arrows.{Arrows, amount, tail}
 use Rattle.loops.specs.Model.{at, pred, round, row_after, preds_after, rooted, all_rooted, settled, worth, circle_arrows}
-use Rattle.loops.specs.Forest.{Deep, gap}
+use Rattle.loops.specs.Forest.{Deep}
 use Rattle.loops.proofs.Grounded.{deep_short}
 use Rattle.loops.proofs.Worth.{worth_next, worth_root, worth_most, tight_settled, settled_most}
 use Rattle.loops.proofs.Kept.{round_grows, round_exact, round_fed, round_still, round_quiet, rested_least, tight_books}

@@ -1,5 +1,5 @@
 -- One relaxation, in the words of its contracts: what a turn is given and leaves, and what the whole leaves.
-use Rattle.std.specs.Prelude.{◌≡◌, List, ℕ, ◌≤◌, ◌<◌, length, take, ℤ, negsuc, ◌≤ℤ◌}
+use Rattle.std.specs.Prelude.{◌≡◌, List, ℕ, ◌≤◌, ◌<◌, length, take, ℤ, ◌≤ℤ◌}
 use Rattle.paper.specs.Chains.{Listed}
 use Rattle.loops.specs.Arrows.{Arrows, Least, Contradicts, Highs, tail, head}
 use Rattle.loops.specs.Model.{at, pred}

@@ -1,4 +1,5 @@
 // Relaxation over two rows.
 #![tactic(auto)]
+
 pub mod relax;
 pub mod round;

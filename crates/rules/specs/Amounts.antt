@@ -1,6 +1,6 @@
 -- Whose amount a number is, and the numbers that the sums are asked of. A sum sees records that were read, and knows no network: what it says
 -- holds of every network that the records belong to.
-use Rattle.std.specs.Prelude.{◌≡◌, ℕ, ℤ, pos, negsuc}
+use Rattle.std.specs.Prelude.{◌≡◌, ℕ, ℤ, pos}
 use Rattle.whole.specs.Between.{Between, far, far_below}
 use Rattle.network.specs.declared.Register.{Register}
 use Rattle.network.specs.declared.Path.{Path}

@@ -1,6 +1,7 @@
 // The sums of the four rules, each once: the amount of a rule without the period, a setup rule's amount at a period, and by how much an
 // arrow with its amount is met. Each is worked out between instants and lengths, so that nothing is added that has no meaning.
 #![tactic(auto)]
+
 ghost use Rattle.std.specs.Prelude.{◌≡◌, ◌+ℤ◌, ◌-ℤ◌};
 ghost use Rattle.std.specs.Int.{w32};
 ghost use Rattle.std.proofs.Common.{SFits};

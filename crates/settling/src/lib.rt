@@ -1,5 +1,6 @@
 // Settling: every register takes the time that its preds give it, so that a rise reaches all that hangs on it in the same round.
 #![tactic(auto)]
+
 ghost use Rattle.std.specs.Prelude.{◌≡◌, ◌<◌, length, get_or, pos, ◌+ℤ◌, ◌-ℤ◌};
 ghost use Rattle.std.specs.Int.{w32, w64};
 ghost use Rattle.std.proofs.Common.{SFits};

@@ -1,7 +1,7 @@
 -- What the mended hold rule changed in what the scheduler may return and leave, against u charged everywhere. The contract as it was is kept here, and
 -- for every accepted file with no self path, or with u 0, it is the contract; so it is for every accepted file that 8 did not apply to. Rests on `Demands`,
 -- and on `Charged` and `Unchanged` of `loops`, which have the rule as it was.
-use mathlib.Core.Path.{◌≡◌, refl, ap, ◌∙◌}
+use mathlib.Core.Path.{◌≡◌, ap, ◌∙◌}
 use mathlib.Core.Logic.{◌⊎◌, inl, inr, ◌↔◌}
 use mathlib.Core.List.{List, [], ◌∷◌, ◌++◌}
 use Prim.Native.Nat.{ℕ, ◌+◌, ◌*◌, ◌≤◌, ◌<◌}

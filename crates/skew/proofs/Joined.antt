@@ -5,7 +5,7 @@ use mathlib.Core.Logic.{◌↔◌}
 use mathlib.Core.List.{List, ◌++◌}
 use Prim.Native.Nat.{ℕ, zero, suc, ◌≤◌}
 use native.Mathlib.Omega.{arith}
-use lib.IntN.{ℤ, pos, negsuc}
+use lib.IntN.{ℤ, pos}
 use Rattle.whole.proofs.Lin.{lin}
 use Rattle.paper.specs.declared.Outcome.TheVariants as outcome
 use Rattle.paper.specs.declared.Reply.{Reply}

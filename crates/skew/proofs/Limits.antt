@@ -9,7 +9,7 @@ use mir.Syntax.{w32}
 use mir.Val.{SFits, to_z, of_z}
 use mir.Facts.{to_z-of_z}
 use Rattle.whole.proofs.Lin.{lin}
-use Rattle.paper.specs.Rules.{Rule, Setup, Hold, Low, High, base, amount}
+use Rattle.paper.specs.Rules.{Rule, Setup, base, amount}
 use Rattle.paper.specs.File.{natural, within, network_of}
 use Rattle.paper.specs.Question.{Question, asked, Asked}
 use Rattle.paper.proofs.Legal.{Legal, accepted_legal, both, within_is, natural_is}

@@ -6,8 +6,7 @@ use Prim.Native.Nat.{ℕ, zero, suc, ◌+◌, ◌*◌, ◌≤◌, ◌<◌}
 use native.Mathlib.Omega.{arith}
 use native.Mathlib.Nat.{add-zero}
 use native.Mathlib.Decide.{dec_lt}
-use lib.IntN.{ℤ, pos, negsuc}
-use lib.Signed.{◌≤ℤ◌}
+use lib.IntN.{ℤ, pos}
 use Rattle.whole.proofs.Lin.{lin}
 use lib.ListN.{length, get_or, drop, length-append}
 use mir.Syntax.{w32}

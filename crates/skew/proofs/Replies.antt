@@ -17,7 +17,7 @@ use Rattle.paper.specs.Network.{Network}
 use Rattle.paper.specs.File.{network_of}
 use Rattle.paper.specs.Table.{Row, Given, Clear}
 use Rattle.paper.specs.Outcome.{Judged}
-use Rattle.paper.specs.Question.{Question, asked, Asked, InRange, question_rows, Answers, FileAnswers}
+use Rattle.paper.specs.Question.{Question, asked, InRange, question_rows, Answers, FileAnswers}
 use Rattle.paper.proofs.TableLaws.{given_after}
 use Rattle.network.proofs.Verdicts.{judged_faulty}
 use Rattle.skew.specs.Slack.{numbers_within, TellsRule, IsSlack}

@@ -1,6 +1,6 @@
 -- What a row of the networks worked by hand (RULES 11.5) says of the scheduler's results: with room enough, the row's own outcome and bytes
 -- are allowed, and nothing else is, but for the loop.
-use Rattle.std.specs.Prelude.{◌≡◌, List, [], ◌++◌, ℕ, ◌+◌, ◌*◌, ◌≤◌, pos, length, get_or, drop}
+use Rattle.std.specs.Prelude.{◌≡◌, List, [], ◌++◌, ℕ, ◌≤◌, pos, length, get_or, drop}
 use Rattle.paper.specs.declared.Outcome.{Outcome}
 use Rattle.paper.specs.declared.Outcome.TheVariants as outcome
 use Rattle.paper.specs.Rules.{Rule}

@@ -1,5 +1,5 @@
 -- What the parts of the rule question answer: whether its numbers lie in their ranges, whether the rule exists, and by how much it is met.
-use Rattle.std.specs.Prelude.{◌≡◌, List, Bool, true, false, ◌&&◌, ℕ, ℤ, pos, negsuc}
+use Rattle.std.specs.Prelude.{◌≡◌, List, Bool, true, false, ◌&&◌, ℕ, ℤ, pos}
 use Rattle.paper.specs.Network.{Network}
 use Rattle.paper.specs.Rules.{Rule}
 use Rattle.paper.specs.File.{within, network_of}

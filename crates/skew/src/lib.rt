@@ -1,4 +1,5 @@
 // Clock skew scheduling: the module's two public functions. Their contracts speak of the paper alone; the theorems about them are in proofs/.
 #![tactic(auto)]
+
 pub mod question;
 pub mod schedule;

@@ -1,6 +1,8 @@
 // The module's two public functions for callers in C and in Rust: include/skew.h declares them. Each lends its slices to the function of
 // `skew` that does the work, and packs what that returns into one integer, since an enum cannot cross the boundary. A slice is two
 // arguments there: where its bytes stand, then how many there are.
+#![tactic(auto)]
+
 ghost use Rattle.std.specs.Prelude.{◌≡◌, ◌<◌};
 ghost use Rattle.whole.specs.Four.{word_of};
 ghost use Rattle.paper.specs.Question.{asked};

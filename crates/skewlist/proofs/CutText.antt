@@ -13,7 +13,7 @@ use Rattle.paper.specs.Refusals.{schedule_rows}
 use Rattle.paper.specs.Numbers.{outcome_number, outcome_place}
 use Rattle.paper.specs.Output.{Front}
 use Rattle.paper.specs.Outcome.{Left}
-use Rattle.paper.proofs.Cut.{TooLong, long_refused, cut_refused}
+use Rattle.paper.proofs.Cut.{long_refused, cut_refused}
 use Rattle.listing.specs.ResultText.{result_text}
 use Rattle.skewlist.specs.Listing.{Listing}
 

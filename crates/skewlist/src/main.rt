@@ -1,17 +1,17 @@
 // Lists the answer to a network file: the file comes on standard input, the text goes to standard output. Where the one cannot be read or
 // the other not be written, it says so on standard error.
 #![tactic(auto)]
+
 ghost use Rattle.std.specs.Prelude.{◌+◌, ◌*◌, ◌≤◌, ◌<◌, length};
 ghost use Rattle.io.specs.Counts.{IsPrefixLen};
 ghost use Rattle.paper.specs.Limits.{most_registers, most_paths};
 ghost use Rattle.skewlist.specs.Listing.{Listing, CeilingKnown, SameText};
 ghost use Rattle.listing.specs.Listable.{text_room};
 
-use std::io::{Read, Stdin};
-
 use listing::TEXT_ROOM;
 use paper::Outcome;
 use paper::limits::{MOST_PATHS, MOST_REGISTERS};
+use std::io::{Read, Stdin};
 
 // The standard streams by their numbers.
 const STDIN_FILENO: i32 = 0;

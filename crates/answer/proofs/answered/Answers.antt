@@ -9,7 +9,6 @@ use mir.Facts.{to_z-of_z, to_z_pos}
 use Rattle.loops.proofs.Taken.{map-length}
 use Rattle.answer.proofs.Entries.{shown}
 use Rattle.answer.proofs.Fronts.{answered_front}
-use borrow.Author.Rules.{rules}
 use Rattle.answer.proofs.answered.Goals as goal
 
 pub returns : goal.returns

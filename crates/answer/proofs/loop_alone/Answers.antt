@@ -9,7 +9,6 @@ use mir.Facts.{to_z_pos}
 use Rattle.loops.proofs.Taken.{map-length}
 use Rattle.answer.proofs.Entries.{shown}
 use Rattle.answer.proofs.Fronts.{alone_front}
-use borrow.Author.Rules.{rules}
 use Rattle.answer.proofs.loop_alone.Goals as goal
 
 pub returns : goal.returns

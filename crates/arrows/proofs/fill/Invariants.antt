@@ -1,29 +1,15 @@
 -- `arrows::fill` meets its contract: the windows stand, and path by path both places lie within the lists, both amounts fit, and what is
 -- written are the path's two rules.
-use mathlib.Core.Path.{◌≡◌, refl, ◌∙◌}
+use mathlib.Core.Path.{◌≡◌}
 use mathlib.Core.List.{List}
-use Prim.Native.Nat.{ℕ, ◌-◌, ◌≤◌, ◌<◌}
-use native.Mathlib.Omega.{arith}
-use lib.ListN.{length, length-set}
+use Prim.Native.Nat.{ℕ, ◌-◌, ◌≤◌}
+use lib.ListN.{length}
 use lib.IntN.{ℤ}
-use mir.Syntax.{w32}
-use mir.Val.{SFits}
-use mir.Facts.{to_z-of_z}
 use Rattle.paper.specs.Network.{Network}
-use Rattle.paper.specs.Rules.{Hold, Setup}
 use Rattle.paper.specs.File.{network_of}
-use Rattle.paper.proofs.Legal.{Legal, accepted_legal}
-use Rattle.loops.specs.Layout.{place_of}
-use Rattle.places.specs.Few.{Few}
-use Rattle.network.specs.Records.{IsRegister}
-use Rattle.network.proofs.Ranges.{RegisterRanges, PathRanges, register_ranges, path_ranges}
-use Rattle.rules.proofs.Ranges.{small_ends}
 use Rattle.arrows.specs.Filled.{Lists, lists}
 use Rattle.arrows.specs.Filling.{Paths}
-use Rattle.arrows.proofs.Puts.{put_is, wide_writable, wide_below}
-use Rattle.arrows.proofs.Laid.{legal_few}
-use Rattle.arrows.proofs.Fills.{room_wide, paths-none, paths-put, paths_all}
-use Rattle.arrows.proofs.Same.{SameLengths, same_start, same_put}
+use Rattle.arrows.proofs.Same.{SameLengths}
 use Rattle.arrows.proofs.fill.Given as goal
 
 -- the paths below p have their rules, and no list has changed its length

@@ -1,15 +1,8 @@
 -- `arrows::windows` meets its contract, register by register: both places lie within the lists, both amounts fit, and what is written are
 -- the register's two rules.
-use mathlib.Core.Path.{◌≡◌, ◌∙◌}
-use mathlib.Core.List.{List}
-use Prim.Native.Nat.{ℕ, ◌-◌, ◌≤◌, ◌<◌}
+use mathlib.Core.Path.{◌≡◌}
+use Prim.Native.Nat.{◌≤◌, ◌<◌}
 use native.Mathlib.Omega.{arith}
-use borrow.Author.Rules.{rules}
-use lib.ListN.{length, length-set}
-use lib.IntN.{ℤ}
-use mir.Syntax.{w32}
-use mir.Val.{SFits}
-use mir.Facts.{to_z-of_z}
 use Rattle.paper.specs.Network.{Network}
 use Rattle.paper.specs.Rules.{Low, High}
 use Rattle.paper.specs.File.{network_of}
@@ -17,11 +10,9 @@ use Rattle.paper.proofs.Legal.{Legal, accepted_legal}
 use Rattle.loops.specs.Layout.{place_of}
 use Rattle.network.proofs.Ranges.{RegisterRanges, register_ranges}
 use Rattle.rules.proofs.Ranges.{small_register}
-use Rattle.arrows.specs.Filled.{Lists, lists}
-use Rattle.arrows.specs.Filling.{Windows}
-use Rattle.arrows.proofs.Puts.{put_is, wide_writable, wide_below}
-use Rattle.arrows.proofs.Fills.{windows-none, windows-put}
-use Rattle.arrows.proofs.Same.{SameLengths, same_start, same_put}
+use Rattle.arrows.proofs.Puts.{wide_writable}
+use Rattle.arrows.proofs.Fills.{windows-none}
+use Rattle.arrows.proofs.Same.{same_start}
 use Rattle.arrows.proofs.windows.Goals as goal
 
 -- ---- the answers
@@ -37,22 +28,22 @@ pub low-low-requires : goal.low-low-requires
 low-low-requires c =
     let N : Network = network_of c.args.file.now in
     let exists : (0 < c.loop-i.i) × (c.loop-i.i < N.registers) =
-        let e = c.requires.source.header.registers in
+    let e = c.requires.source.header.registers in
     let l = c.loop-i-test.true in
     (c.loop-i.invariant.windows.some, omega arith) in
     let ranges : RegisterRanges c.register-r.result =
-        register_ranges _ _ _ c.requires.source.accepted exists.1 c.register-r.ensures in
+    register_ranges _ _ _ c.requires.source.accepted exists.1 c.register-r.ensures in
     small_register ranges
 
 pub high-high-requires : goal.high-high-requires
 high-high-requires c =
     let N : Network = network_of c.args.file.now in
     let exists : (0 < c.loop-i.i) × (c.loop-i.i < N.registers) =
-        let e = c.requires.source.header.registers in
+    let e = c.requires.source.header.registers in
     let l = c.loop-i-test.true in
     (c.loop-i.invariant.windows.some, omega arith) in
     let ranges : RegisterRanges c.register-r.result =
-        register_ranges _ _ _ c.requires.source.accepted exists.1 c.register-r.ensures in
+    register_ranges _ _ _ c.requires.source.accepted exists.1 c.register-r.ensures in
     small_register ranges
 
 pub high-g-requires : goal.high-g-requires
@@ -60,7 +51,7 @@ high-g-requires c =
     let N : Network = network_of c.args.file.now in
     let legal : Legal N = accepted_legal _ c.requires.source.accepted in
     let exists : (0 < c.loop-i.i) × (c.loop-i.i < N.registers) =
-        let e = c.requires.source.header.registers in
+    let e = c.requires.source.header.registers in
     let l = c.loop-i-test.true in
     (c.loop-i.invariant.windows.some, omega arith) in
     let few = legal.registers_to in
@@ -71,11 +62,11 @@ pub both-requires : goal.both-requires
 both-requires c =
     let N : Network = network_of c.args.file.now in
     let exists : (0 < c.loop-i.i) × (c.loop-i.i < N.registers) =
-        let e = c.requires.source.header.registers in
+    let e = c.requires.source.header.registers in
     let l = c.loop-i-test.true in
     (c.loop-i.invariant.windows.some, omega arith) in
     let high_place : c.high-g.result ≡ place_of N (High c.loop-i.i) =
-        let e = c.requires.source.header.registers in
+    let e = c.requires.source.header.registers in
     omega (arith, c.high-g.ensures) in
     let legal : Legal N = accepted_legal _ c.requires.source.accepted in
     let small : c.loop-i.i ≤ 65535 = let few = legal.registers_to in let l = exists.1 in omega arith in

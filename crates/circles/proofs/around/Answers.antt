@@ -1,11 +1,6 @@
 -- `circles::around` meets its contract: after k steps the walk stands where the model's search stands with k steps taken, and each
 -- way out of the loop is an arm of the model's step.
-use borrow.Author.Rules.{rules}
-use Prim.Native.Nat.{◌-◌}
-use native.Mathlib.Omega.{arith}
-use lib.ListN.{get_or}
-use Rattle.loops.specs.Arrows.{arrows}
-use Rattle.circles.proofs.Rings.{Circling, circling_none, circling_root, circling_home, circling_more, circling_all}
+use Rattle.circles.proofs.Rings.{circling_root, circling_home, circling_more, circling_all}
 use Rattle.circles.proofs.around.Goals as goal
 
 pub returns-then-e-count : goal.returns-then-e-count

@@ -1,10 +1,8 @@
 -- `circles::around` meets its contract: after k steps the walk stands where the model's search stands with k steps taken, and each
 -- way out of the loop is an arm of the model's step.
 use Prim.Native.Nat.{◌-◌}
-use native.Mathlib.Omega.{arith}
-use lib.ListN.{get_or}
 use Rattle.loops.specs.Arrows.{arrows}
-use Rattle.circles.proofs.Rings.{Circling, circling_none, circling_root, circling_home, circling_more, circling_all}
+use Rattle.circles.proofs.Rings.{Circling}
 use Rattle.circles.proofs.around.Given as goal
 
 abbrev pub invariant-loop-k : goal.invariant-loop-k

@@ -1,9 +1,5 @@
 -- `circles::grounded` meets its contract: after k steps the walk is rooted where it is from the register at which it stands.
-use borrow.Author.Rules.{rules}
-use Prim.Native.Nat.{◌-◌}
-use native.Mathlib.Omega.{arith}
-use Rattle.loops.specs.Arrows.{arrows}
-use Rattle.circles.proofs.Rings.{Followed, followed_none, followed_root, followed_more, followed_all}
+use Rattle.circles.proofs.Rings.{followed_root, followed_more, followed_all}
 use Rattle.circles.proofs.grounded.Goals as goal
 
 pub returns-then-count-preds : goal.returns-then-count-preds

@@ -1,8 +1,7 @@
 -- `circles::grounded` meets its contract: after k steps the walk is rooted where it is from the register at which it stands.
 use Prim.Native.Nat.{◌-◌}
-use native.Mathlib.Omega.{arith}
 use Rattle.loops.specs.Arrows.{arrows}
-use Rattle.circles.proofs.Rings.{Followed, followed_none, followed_root, followed_more, followed_all}
+use Rattle.circles.proofs.Rings.{Followed}
 use Rattle.circles.proofs.grounded.Given as goal
 
 abbrev pub invariant-loop-k : goal.invariant-loop-k

@@ -1,10 +1,7 @@
 -- `circles::list` meets its contract: behind the k places that are left stands the trail of the steps taken. Each place that the walk
 -- reads is a register, and each pred an arrow, since the caller says so of every step on the way.
-use Prim.Native.Nat.{◌<◌}
-use native.Mathlib.Omega.{arith}
-use lib.ListN.{get_or}
 use Rattle.loops.specs.Arrows.{arrows}
-use Rattle.circles.proofs.Rings.{RingListing, listing_none, listing_below, listing_arrow, listing_more, listing_all}
+use Rattle.circles.proofs.Rings.{RingListing}
 use Rattle.circles.proofs.list.Given as goal
 
 abbrev pub invariant-loop-k : goal.invariant-loop-k

@@ -1,9 +1,6 @@
 -- `circles::lowest` meets its contract: after k steps `low` is the lowest register that the walk met.
-use borrow.Author.Rules.{rules}
-use Prim.Native.Nat.{◌-◌}
 use native.Mathlib.Omega.{arith}
-use Rattle.loops.specs.Arrows.{arrows}
-use Rattle.circles.proofs.Rings.{Lowered, lowered_none, gone_below, gone_arrow, lowered_under, lowered_over, lowered_all}
+use Rattle.circles.proofs.Rings.{lowered_none, gone_below, gone_arrow, lowered_under, lowered_over}
 use Rattle.circles.proofs.lowest.Goals as goal
 
 pub loop-k-init : goal.loop-k-init

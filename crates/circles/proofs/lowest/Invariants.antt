@@ -1,8 +1,7 @@
 -- `circles::lowest` meets its contract: after k steps `low` is the lowest register that the walk met.
 use Prim.Native.Nat.{◌-◌}
-use native.Mathlib.Omega.{arith}
 use Rattle.loops.specs.Arrows.{arrows}
-use Rattle.circles.proofs.Rings.{Lowered, lowered_none, gone_below, gone_arrow, lowered_under, lowered_over, lowered_all}
+use Rattle.circles.proofs.Rings.{Lowered}
 use Rattle.circles.proofs.lowest.Given as goal
 
 abbrev pub invariant-loop-k : goal.invariant-loop-k

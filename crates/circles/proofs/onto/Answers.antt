@@ -1,9 +1,6 @@
 -- `circles::onto` meets its contract: after k steps the walk stands k steps back.
-use borrow.Author.Rules.{rules}
-use Prim.Native.Nat.{◌-◌}
 use native.Mathlib.Omega.{arith}
-use Rattle.loops.specs.Arrows.{arrows}
-use Rattle.circles.proofs.Rings.{gone_none, gone_below, gone_arrow, gone_more, gone_all, Gone}
+use Rattle.circles.proofs.Rings.{gone_none, gone_below, gone_arrow, gone_more}
 use Rattle.circles.proofs.onto.Goals as goal
 
 pub loop-k-init : goal.loop-k-init

@@ -1,8 +1,7 @@
 -- `circles::onto` meets its contract: after k steps the walk stands k steps back.
 use Prim.Native.Nat.{◌-◌}
-use native.Mathlib.Omega.{arith}
 use Rattle.loops.specs.Arrows.{arrows}
-use Rattle.circles.proofs.Rings.{gone_none, gone_below, gone_arrow, gone_more, gone_all, Gone}
+use Rattle.circles.proofs.Rings.{Gone}
 use Rattle.circles.proofs.onto.Given as goal
 
 abbrev pub invariant-loop-k : goal.invariant-loop-k

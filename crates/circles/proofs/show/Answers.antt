@@ -6,13 +6,12 @@ use lib.Seq.{take_at}
 use Rattle.loops.specs.Arrows.{arrows}
 use Rattle.loops.proofs.Trails.{trail-length}
 use Rattle.circles.proofs.Rings.{Found, circle_known, circle_trail}
-use borrow.Author.Rules.{rules}
 use Rattle.circles.proofs.show.Goals as goal
 
 pub list-requires : goal.list-requires
 list-requires c =
     let found : Found (arrows c.args.n c.args.count c.args.tail.now c.args.head.now c.args.amount.now) c.args.preds.now c.circle-cycle.result.start c.circle-cycle.result.steps =
-        let a = c.requires.astray in circle_known _ _ _ _ _ c.circle-cycle.ensures a.follows.shape.sound a.follows.below a.stray in
+    let a = c.requires.astray in circle_known _ _ _ _ _ c.circle-cycle.ensures a.follows.shape.sound a.follows.below a.stray in
     let k = c.requires in
     let f = k.astray.follows in
     let l = found in
@@ -25,7 +24,7 @@ list-requires c =
 pub returns : goal.returns
 returns c =
     let found : Found (arrows c.args.n c.args.count c.args.tail.now c.args.head.now c.args.amount.now) c.args.preds.now c.circle-cycle.result.start c.circle-cycle.result.steps =
-        let a = c.requires.astray in circle_known _ _ _ _ _ c.circle-cycle.ensures a.follows.shape.sound a.follows.below a.stray in
+    let a = c.requires.astray in circle_known _ _ _ _ _ c.circle-cycle.ensures a.follows.shape.sound a.follows.below a.stray in
     let l = found in
     let r = c.circle-cycle.result in
     record {

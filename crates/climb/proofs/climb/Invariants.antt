@@ -1,16 +1,8 @@
 -- `climb::climb` meets its contract: each period that is tried lies from floor to ceiling, with a loop that shows why no smaller one has a
 -- schedule. It ends because the period rises.
-use mathlib.Core.Path.{◌≡◌, sym, ap, ◌∙◌}
 use Prim.Native.Nat.{suc, ◌-◌}
-use lib.ListN.{length}
-use mir.Syntax.{w32}
-use mir.Val.{SFits, to_z, of_z}
-use mir.Facts.{to_z-of_z}
-use Rattle.whole.proofs.Lin.{lin}
 use Rattle.paper.specs.File.{natural}
-use Rattle.arrows.proofs.Laid.{legal_few}
-use Rattle.climb.proofs.Attempts.{at_least, trial_weighable, trial_starts, trial_concludable}
-use Rattle.climb.proofs.Goings.{Going, begun_trial, begun_lent, going_first, going_ends, going_on, going_up}
+use Rattle.climb.proofs.Goings.{Going}
 use Rattle.climb.proofs.climb.Given as goal
 
 abbrev pub invariant-loop-o : goal.invariant-loop-o

@@ -1,12 +1,7 @@
 -- `guess::choose` meets its contract: what is noted at a register is an arrow into it.
-use Prim.Native.Nat.{ℕ, ◌-◌, ◌<◌}
-use lib.ListN.{get_or}
-use mathlib.Core.Logic.{⊎_elim}
-use native.Mathlib.Omega.{arith}
-use mathlib.Core.Path.{sym, ◌∙◌}
+use Prim.Native.Nat.{◌-◌}
 use Rattle.loops.specs.Arrows.{arrows}
 use Rattle.guess.specs.Guessing.{Chosen}
-use Rattle.guess.proofs.Choosing.{chosen_more}
 use Rattle.guess.proofs.choose.Given as goal
 
 abbrev pub invariant-loop-e : goal.invariant-loop-e

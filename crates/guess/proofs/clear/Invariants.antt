@@ -1,8 +1,6 @@
 -- `guess::clear` meets its contract: register by register, no pred.
 use Prim.Native.Nat.{◌-◌}
-use native.Mathlib.Omega.{arith}
-use mathlib.Core.Path.{sym, ◌∙◌}
-use Rattle.guess.proofs.Clearing.{ClearedTo, cleared_none, cleared_more, cleared_all}
+use Rattle.guess.proofs.Clearing.{ClearedTo}
 use Rattle.guess.proofs.clear.Given as goal
 
 abbrev pub invariant-loop-v : goal.invariant-loop-v

@@ -9,8 +9,7 @@ use mir.Val.{SFits}
 use borrow.Author.Rules.{rules}
 use Rattle.whole.proofs.Lin.{lin}
 use Rattle.loops.specs.Arrows.{Arrows, arrows}
-use Rattle.guess.proofs.Choosing.{cleared_chosen}
-use Rattle.guess.proofs.Guesses.{guess_places, guess_shows, guess_none}
+use Rattle.guess.proofs.Guesses.{guess_places, guess_shows}
 use Rattle.guess.proofs.guess.Goals as goal
 
 pub total_of-requires : goal.total_of-requires

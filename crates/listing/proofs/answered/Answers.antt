@@ -7,8 +7,8 @@ use mir.Syntax.{w32}
 use mir.Val.{SFits, to_z, of_z}
 use borrow.Author.Rules.{rules}
 use Rattle.listing.specs.Text.{line, period_word}
-use Rattle.text.proofs.Runs.{named, long}
-use Rattle.listing.proofs.Lines.{without_loop, with_loop, same_count, not_negative, less_one_fits}
+use Rattle.text.proofs.Runs.{named}
+use Rattle.listing.proofs.Lines.{without_loop, with_loop, same_count, less_one_fits}
 use Rattle.listing.proofs.answered.Goals as goal
 
 pub returns-then-k-eq0 : goal.returns-then-k-eq0
@@ -32,9 +32,9 @@ returns c =
     let k_is : c.count-k.result ≡ c.requires.counted.k = same_count _ _ _ c.count-k.ensures c.requires.counted.entries_are in
     let number_fits : SFits w32 c.number-period.result = search rules in
     let less_fits : SFits w32 (c.number-period.result -ℤ pos 1) =
-        less_one_fits _ _ number_fits (c.number-period.ensures ∙ c.requires.counted.period_is) in
+    less_one_fits _ _ number_fits (c.number-period.ensures ∙ c.requires.counted.period_is) in
     let less_back : to_z w32 (of_z w32 (to_z w32 (of_z w32 c.number-period.result) -ℤ pos 1)) ≡ c.number-period.result -ℤ pos 1 =
-        rw (to_z-of_z number_fits) (to_z-of_z less_fits) in
+    rw (to_z-of_z number_fits) (to_z-of_z less_fits) in
     let f = c.requires.counted in
     let w = c.put_line-next.ensures in
     let v = c.put_latencies-end.ensures in

@@ -1,14 +1,12 @@
 -- `listing::list` meets its contract: each outcome has its text, which stands at the front, since there is room for it.
-use mathlib.Core.Path.{refl, subst}
+use mathlib.Core.Path.{refl}
 use native.Mathlib.Omega.{arith}
 use mir.Facts.{to_z-of_z}
 use mir.Syntax.{w32}
 use mir.Val.{to_z, of_z}
 use Rattle.paper.specs.declared.Outcome.TheVariants as outcome
-use Rattle.listing.specs.Listable.{Counted}
 use Rattle.listing.specs.Text.{refused, answered_text, looped_text}
 use Rattle.listing.proofs.Lines.{looped_is, told}
-use borrow.Author.Rules.{rules}
 use Rattle.listing.proofs.list.Goals as goal
 
 pub returns-in-Answered : goal.returns-in-Answered

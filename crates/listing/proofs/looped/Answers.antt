@@ -2,9 +2,7 @@
 use mathlib.Core.Path.{◌≡◌}
 use native.Mathlib.Omega.{arith}
 use mir.Facts.{to_z-of_z}
-use borrow.Author.Rules.{rules}
-use Rattle.text.proofs.Runs.{long}
-use Rattle.listing.proofs.Lines.{looped_written, same_count, not_negative}
+use Rattle.listing.proofs.Lines.{looped_written, same_count}
 use Rattle.listing.proofs.looped.Goals as goal
 
 pub returns : goal.returns

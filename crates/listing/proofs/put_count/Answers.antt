@@ -1,6 +1,5 @@
 -- `listing::put_count` meets its contract: the digits follow the word.
 use Rattle.text.proofs.Runs.{and_then}
-use borrow.Author.Rules.{rules}
 use Rattle.listing.proofs.put_count.Goals as goal
 
 pub returns : goal.returns

@@ -3,7 +3,6 @@ use native.Mathlib.Omega.{arith}
 use mir.Facts.{to_z-of_z}
 use Rattle.listing.specs.Text.{setup_word, hold_word, low_word, high_word}
 use Rattle.listing.proofs.Lines.{kind-line, matched, setup-kind, hold-kind, low-kind, high-kind}
-use borrow.Author.Rules.{rules}
 use Rattle.listing.proofs.put_entry.Goals as goal
 
 -- ---- the answers

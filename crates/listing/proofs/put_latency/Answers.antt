@@ -8,7 +8,6 @@ use Rattle.listing.specs.Text.{latency_word}
 use Rattle.text.proofs.Decimal.{decimal_few}
 use Rattle.text.proofs.Runs.{and_then, named, long}
 use Rattle.listing.proofs.Lines.{latency_line_lem, counted_place}
-use borrow.Author.Rules.{rules}
 use Rattle.listing.proofs.put_latency.Goals as goal
 
 pub put_count-next-requires : goal.put_count-next-requires

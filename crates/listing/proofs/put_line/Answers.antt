@@ -1,11 +1,7 @@
 -- `listing::put_line` meets its contract: the word, the number and the newline follow one another.
-use mathlib.Core.Path.{◌∙◌}
 use native.Mathlib.Omega.{arith}
-use lib.ListN.{length-set}
 use mir.Facts.{to_z-of_z}
-use Rattle.text.proofs.Runs.{long}
 use Rattle.listing.proofs.Lines.{line_written}
-use borrow.Author.Rules.{rules}
 use Rattle.listing.proofs.put_line.Goals as goal
 
 pub returns : goal.returns

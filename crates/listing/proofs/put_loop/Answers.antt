@@ -4,7 +4,6 @@ use native.Mathlib.Omega.{arith}
 use mir.Facts.{to_z-of_z}
 use Rattle.listing.specs.Text.{line, loop_word}
 use Rattle.text.proofs.Runs.{and_then, named}
-use borrow.Author.Rules.{rules}
 use Rattle.listing.proofs.put_loop.Goals as goal
 
 -- ---- the answers

@@ -3,13 +3,12 @@ use mathlib.Core.Path.{◌≡◌, ◌∙◌}
 use mathlib.Core.List.{[], ◌∷◌}
 use Prim.Native.Nat.{◌≤◌}
 use native.Mathlib.Omega.{arith}
-use lib.ListN.{length, length-set}
+use lib.ListN.{length}
 use Rattle.text.specs.Decimal.{decimal}
 use Rattle.listing.specs.Text.{refused_word}
 use Rattle.text.proofs.Decimal.{decimal_few}
 use Rattle.text.proofs.Runs.{and_then, and_byte, named, long}
 use Rattle.listing.proofs.Lines.{refused-line, counted_place}
-use borrow.Author.Rules.{rules}
 use Rattle.listing.proofs.put_refused.Goals as goal
 use Rattle.listing.proofs.put_refused.Goals.{After-put_count-end}
 

@@ -1,5 +1,4 @@
 -- `look::keep` meets its contract: what stands in the kept row is what the function that was called last writes.
-use borrow.Author.Rules.{rules}
 use Rattle.look.specs.Firsts.{anew, onward}
 use Rattle.look.proofs.keep.Goals as goal
 

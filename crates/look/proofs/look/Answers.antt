@@ -1,9 +1,7 @@
 -- `look::look` meets its contract: the first row is one that a relaxation may start from, and each of the ways out is an end of a look.
-use mathlib.Core.Path.{◌≡◌}
 use native.Mathlib.Omega.{arith}
-use borrow.Author.Rules.{rules}
 use Rattle.loops.specs.Arrows.{Arrows, arrows}
-use Rattle.look.proofs.Looks.{first_room, first_starts, looked_circled, looked_kept}
+use Rattle.look.proofs.Looks.{first_starts, looked_kept}
 use Rattle.look.proofs.look.Goals as goal
 
 pub go_on-last-requires : goal.go_on-last-requires

@@ -10,7 +10,7 @@ use mir.Val.{SFits}
 use mir.Facts.{to_z-of_z}
 use Rattle.whole.specs.Rounding.{round_up}
 use Rattle.needs.specs.Raising.{sum_at}
-use Rattle.needs.proofs.Nexts.{amounts_at, kinds-at, share_fits, next_fits, next_is}
+use Rattle.needs.proofs.Nexts.{share_fits, next_fits, next_is}
 use borrow.Author.Rules.{rules}
 use Rattle.needs.proofs.next.Goals as goal
 
@@ -21,7 +21,7 @@ overflow_cast-result c =
     let loop : List ℕ = take c.args.entries c.args.ring.now in
     let sum : ℤ = sum_at c.args.amount.now loop in
     let share : c.round_up.result ≡ round_up sum c.setups_of-k.result =
-        let f : SFits w64 c.total_of-over.result = search rules in
+    let f : SFits w64 c.total_of-over.result = search rules in
     rw (to_z-of_z f, c.total_of-over.ensures) at c.round_up.ensures in
     let fits : SFits w32 c.round_up.result = share_fits c.requires _ some _ share in
     rw (to_z-of_z wide) fits
@@ -33,7 +33,7 @@ overflow_add-result c =
     let loop : List ℕ = take c.args.entries c.args.ring.now in
     let sum : ℤ = sum_at c.args.amount.now loop in
     let share : c.round_up.result ≡ round_up sum c.setups_of-k.result =
-        let f : SFits w64 c.total_of-over.result = search rules in
+    let f : SFits w64 c.total_of-over.result = search rules in
     rw (to_z-of_z f, c.total_of-over.ensures) at c.round_up.ensures in
     let fits : SFits w32 c.round_up.result = share_fits c.requires _ some _ share in
     rw (to_z-of_z c.ranges.period, to_z-of_z wide, to_z-of_z fits) (next_fits c.requires _ some _ share)
@@ -45,7 +45,7 @@ returns c =
     let loop : List ℕ = take c.args.entries c.args.ring.now in
     let sum : ℤ = sum_at c.args.amount.now loop in
     let share : c.round_up.result ≡ round_up sum c.setups_of-k.result =
-        let f : SFits w64 c.total_of-over.result = search rules in
+    let f : SFits w64 c.total_of-over.result = search rules in
     rw (to_z-of_z f, c.total_of-over.ensures) at c.round_up.ensures in
     let fits : SFits w32 c.round_up.result = share_fits c.requires _ some _ share in
     rw (to_z-of_z c.ranges.period, to_z-of_z wide, to_z-of_z fits, to_z-of_z (next_fits c.requires _ some _ share))

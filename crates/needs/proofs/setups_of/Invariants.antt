@@ -1,11 +1,6 @@
 -- `needs::setups_of` meets its contract: after j entries it has counted the setup rules of the first j.
-use mathlib.Core.Path.{◌≡◌}
-use mathlib.Core.Logic.{⊎_elim}
-use native.Mathlib.Omega.{arith}
-use Prim.Native.Nat.{ℕ, ◌-◌, ◌<◌}
-use lib.ListN.{length, get_or}
-use Rattle.loops.proofs.Taken.{all_taken}
-use Rattle.needs.proofs.Counts.{Counted, counted_none, counted-setup, counted_other}
+use Prim.Native.Nat.{◌-◌}
+use Rattle.needs.proofs.Counts.{Counted}
 use Rattle.needs.proofs.setups_of.Given as goal
 
 abbrev pub invariant-loop-j : goal.invariant-loop-j

@@ -1,16 +1,14 @@
 -- `needs::total_of` meets its contract: after j entries the sum is that of the first j.
 use borrow.Author.Rules.{rules}
-use mathlib.Core.Path.{◌≡◌, refl}
-use native.Mathlib.Omega.{arith}
-use Prim.Native.Nat.{ℕ, ◌-◌, ◌<◌}
-use lib.ListN.{length, get_or}
+use mathlib.Core.Path.{refl}
+use Prim.Native.Nat.{ℕ}
+use lib.ListN.{get_or}
 use lib.IntN.{pos}
-use mir.Syntax.{w32, w64}
-use mir.Val.{SFits, to_z}
+use mir.Syntax.{w32}
+use mir.Val.{SFits}
 use mir.Facts.{to_z-of_z}
 use Rattle.whole.proofs.Machine.{widens}
-use Rattle.loops.proofs.Taken.{all_taken}
-use Rattle.needs.proofs.Sums.{Summed, summed_none, summed_more, sum_fits}
+use Rattle.needs.proofs.Sums.{summed_more, sum_fits}
 use Rattle.needs.proofs.total_of.Goals as goal
 
 pub loop-j-preserved : goal.loop-j-preserved

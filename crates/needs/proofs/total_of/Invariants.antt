@@ -1,15 +1,6 @@
 -- `needs::total_of` meets its contract: after j entries the sum is that of the first j.
-use mathlib.Core.Path.{◌≡◌, refl}
-use native.Mathlib.Omega.{arith}
-use Prim.Native.Nat.{ℕ, ◌-◌, ◌<◌}
-use lib.ListN.{length, get_or}
-use lib.IntN.{pos}
-use mir.Syntax.{w32, w64}
-use mir.Val.{SFits, to_z}
-use mir.Facts.{to_z-of_z}
-use Rattle.whole.proofs.Machine.{widens}
-use Rattle.loops.proofs.Taken.{all_taken}
-use Rattle.needs.proofs.Sums.{Summed, summed_none, summed_more, sum_fits}
+use Prim.Native.Nat.{◌-◌}
+use Rattle.needs.proofs.Sums.{Summed}
 use Rattle.needs.proofs.total_of.Given as goal
 
 abbrev pub invariant-loop-j : goal.invariant-loop-j

@@ -2,9 +2,8 @@
 -- applies. `is-..` say of each place past a test that the test passed.
 use mathlib.Core.Path.{◌≡◌, sym, ◌∙◌}
 use mathlib.Core.Bool.{true}
-use borrow.Author.Rules.{rules}
-use Rattle.paper.specs.File.{headed, counted, sized, ranged}
-use Rattle.network.proofs.Judging.{headed-length, at_header, at-counts, at_length, at-ranges, at_records}
+use Rattle.paper.specs.File.{headed, counted}
+use Rattle.network.proofs.Judging.{headed-length}
 use Rattle.network.proofs.judge.Goals as goal
 
 pub counted-requires : goal.counted-requires

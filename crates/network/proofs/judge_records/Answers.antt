@@ -1,8 +1,7 @@
 -- `network::judge_records` meets its contract: each way through the two searches is one row of the paper's table.
 use native.Mathlib.Omega.{arith}
-use borrow.Author.Rules.{rules}
 use Rattle.paper.proofs.Legal.{counts_to}
-use Rattle.network.proofs.Judging.{sized-length, at_register, at_path, at_none}
+use Rattle.network.proofs.Judging.{sized-length}
 use Rattle.network.proofs.judge_records.Goals as goal
 
 -- ---- the answers

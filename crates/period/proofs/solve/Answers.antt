@@ -1,5 +1,4 @@
 -- `period::solve` meets its contract: the module's own memory is large enough for every accepted network.
-use mathlib.Core.Path.{refl, sym}
 use native.Mathlib.Omega.{arith}
 use Rattle.paper.specs.File.{network_of}
 use Rattle.paper.proofs.Legal.{accepted_legal}

@@ -1,11 +1,9 @@
 -- `settling::hop` meets its contract: where the register one step back stands already, the preds give s what stands there and the pred's amount.
-use native.Mathlib.Omega.{arith}
 use borrow.Author.Rules.{rules}
 use mir.Syntax.{w32}
 use mir.Val.{SFits}
 use mir.Facts.{to_z-of_z}
-use Rattle.settling.proofs.Walks.{row_fits}
-use Rattle.settling.proofs.Puts.{hop_below, hop_in_row, hop_marks}
+use Rattle.settling.proofs.Puts.{hop_marks}
 use Rattle.settling.proofs.hop.Goals as goal
 
 pub returns-then-marks-t-eq1 : goal.returns-then-marks-t-eq1

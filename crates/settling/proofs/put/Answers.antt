@@ -1,17 +1,12 @@
 -- `settling::put` meets its contract: the walk's invariant says that the preds give the register it stands at the time in hand, so each
 -- register that it writes stands where its preds put it.
 use borrow.Author.Rules.{rules}
-use mathlib.Core.Path.{◌∙◌, sym}
-use Prim.Native.Nat.{suc, ◌-◌}
 use native.Mathlib.Omega.{arith}
-use lib.ListN.{length-set}
 use mir.Syntax.{w32}
-use mir.Val.{SFits, to_z}
+use mir.Val.{SFits}
 use mir.Facts.{to_z-of_z}
-use Rattle.loops.specs.Arrows.{arrows}
-use Rattle.settling.proofs.Gives.{gives_is}
 use Rattle.settling.proofs.Walks.{row_fits}
-use Rattle.settling.proofs.Puts.{Putting, putting_none, putting_on, read_in_row, put_root, put_met, put_end}
+use Rattle.settling.proofs.Puts.{putting_on, read_in_row}
 use Rattle.settling.proofs.put.Goals as goal
 
 pub earlier-z-requires : goal.earlier-z-requires

@@ -1,6 +1,5 @@
 -- `settling::settle` meets its contract: no register is marked at first.
 use Rattle.settling.proofs.Settles.{zeros}
-use borrow.Author.Rules.{rules}
 use Rattle.settling.proofs.settle.Goals as goal
 
 pub settle_all-requires : goal.settle_all-requires

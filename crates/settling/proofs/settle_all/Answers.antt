@@ -1,11 +1,5 @@
 -- `settling::settle_all` meets its contract: the registers before s are marked, and each marked register stands where its preds put it.
-use borrow.Author.Rules.{rules}
-use Prim.Native.Nat.{◌-◌}
-use native.Mathlib.Omega.{arith}
-use mathlib.Core.Path.{◌∙◌, sym}
-use Rattle.loops.specs.Arrows.{arrows}
-use Rattle.settling.proofs.Settles.{Settling, settling_none, settling_more, settles_no, settles_yes, one_yes, one_no}
-use borrow.Author.Tests.{not-true, not-false}
+use Rattle.settling.proofs.Settles.{settles_no, settles_yes, one_no}
 use Rattle.settling.proofs.settle_all.Goals as goal
 
 pub returns-then-not-settle_one : goal.returns-then-not-settle_one

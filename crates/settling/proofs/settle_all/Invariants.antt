@@ -1,10 +1,7 @@
 -- `settling::settle_all` meets its contract: the registers before s are marked, and each marked register stands where its preds put it.
 use Prim.Native.Nat.{◌-◌}
-use native.Mathlib.Omega.{arith}
-use mathlib.Core.Path.{◌∙◌, sym}
 use Rattle.loops.specs.Arrows.{arrows}
-use Rattle.settling.proofs.Settles.{Settling, settling_none, settling_more, settles_no, settles_yes, one_yes, one_no}
-use borrow.Author.Tests.{not-true, not-false}
+use Rattle.settling.proofs.Settles.{Settling}
 use Rattle.settling.proofs.settle_all.Given as goal
 
 abbrev pub invariant-loop-s : goal.invariant-loop-s

@@ -1,11 +1,6 @@
 -- `answer::record::put_entry` meets its contract: the two marks and the bytes of the two numbers are one record.
-use mathlib.Core.Path.{◌≡◌, ◌∙◌}
-use Prim.Native.Nat.{◌+◌}
-use lib.ListN.{length, length-set}
 use mir.Facts.{to_z-of_z}
-use native.Mathlib.Omega.{arith}
-use Rattle.answer.proofs.Written.{entry_written, marks_long}
-use borrow.Author.Rules.{rules}
+use Rattle.answer.proofs.Written.{entry_written}
 use Rattle.answer.proofs.record.put_entry.Goals as goal
 
 pub returns : goal.returns

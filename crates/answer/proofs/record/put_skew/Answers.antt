@@ -1,10 +1,6 @@
 -- `answer::record::put_skew` meets its contract: the two marks and the bytes of the three numbers are one record.
-use mathlib.Core.Path.{◌≡◌, ◌∙◌}
-use lib.ListN.{length, length-set}
 use mir.Facts.{to_z-of_z}
-use native.Mathlib.Omega.{arith}
-use Rattle.answer.proofs.Written.{skew_written, marks_long}
-use borrow.Author.Rules.{rules}
+use Rattle.answer.proofs.Written.{skew_written}
 use Rattle.answer.proofs.record.put_skew.Goals as goal
 
 pub returns : goal.returns

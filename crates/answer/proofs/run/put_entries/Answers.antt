@@ -1,11 +1,10 @@
 -- `answer::run::put_entries` meets its contract. The loop's invariant: the records of the entries passed stand in the output.
-use Prim.Native.Nat.{ℕ, ◌-◌}
+use Prim.Native.Nat.{ℕ}
 use native.Mathlib.Omega.{arith}
 use lib.ListN.{get_or}
 use mir.Syntax.{w32}
 use mir.Facts.{to_z_pos}
-use Rattle.answer.specs.Records.{Placed}
-use Rattle.answer.proofs.Entries.{Entered, place, entered-none, entered_long, entered_more, entered_all}
+use Rattle.answer.proofs.Entries.{entered_more}
 use Rattle.answer.proofs.run.put_entries.Goals as goal
 
 pub loop-j-preserved : goal.loop-j-preserved

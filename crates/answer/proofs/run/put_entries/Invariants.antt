@@ -1,11 +1,6 @@
 -- `answer::run::put_entries` meets its contract. The loop's invariant: the records of the entries passed stand in the output.
-use Prim.Native.Nat.{ℕ, ◌-◌}
-use native.Mathlib.Omega.{arith}
-use lib.ListN.{get_or}
-use mir.Syntax.{w32}
-use mir.Facts.{to_z_pos}
-use Rattle.answer.specs.Records.{Placed}
-use Rattle.answer.proofs.Entries.{Entered, place, entered-none, entered_long, entered_more, entered_all}
+use Prim.Native.Nat.{◌-◌}
+use Rattle.answer.proofs.Entries.{Entered}
 use Rattle.answer.proofs.run.put_entries.Given as goal
 
 abbrev pub invariant-loop-j : goal.invariant-loop-j

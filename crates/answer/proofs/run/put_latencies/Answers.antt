@@ -1,12 +1,10 @@
 -- `answer::run::put_latencies` meets its contract. The loop's invariant: the latencies of the registers passed stand in the output.
-use Prim.Native.Nat.{◌-◌}
-use native.Mathlib.Omega.{arith}
 use mir.Syntax.{w32}
 use mir.Val.{SFits}
 use mir.Facts.{to_z-of_z}
 use borrow.Author.Rules.{rules}
 use Rattle.loops.specs.Model.{at}
-use Rattle.answer.proofs.Latencies.{Timed, timed_none, timed_long, timed_more, timed_all}
+use Rattle.answer.proofs.Latencies.{timed_more}
 use Rattle.answer.proofs.run.put_latencies.Goals as goal
 
 pub loop-i-preserved : goal.loop-i-preserved

@@ -1,5 +1,4 @@
 -- `network::fault::counted` meets its contract: the two counts, each within its range.
-use borrow.Author.Rules.{rules}
 use Rattle.network.proofs.Joined.{counted-joined}
 use Rattle.network.proofs.fault.counted.Goals as goal
 

@@ -1,6 +1,5 @@
 -- `network::fault::headed` meets its contract: the letters are looked at only where the header is whole.
 use borrow.Author.Tests.{le-leb, lt-leb}
-use borrow.Author.Rules.{rules}
 use Rattle.paper.specs.File.{headed}
 use Rattle.network.proofs.fault.headed.Goals as goal
 

@@ -1,13 +1,9 @@
 -- `network::fault::lowest_path` meets its contract. The loop's invariant: the next record is path p's, and every path passed so far is
 -- sound.
-use mathlib.Core.Path.{◌≡◌, sym, ◌∙◌}
+use mathlib.Core.Path.{◌≡◌}
 use mathlib.Core.Bool.{true}
 use Prim.Native.Nat.{ℕ, ◌+◌, ◌*◌, ◌<◌, ◌-◌}
-use native.Mathlib.Omega.{arith}
-use borrow.Author.Count.{below_more}
-use borrow.Author.Tests.{not-true, not-false}
 use Rattle.paper.specs.File.{path_ok}
-use Rattle.network.proofs.Joined.{path_there}
 use Rattle.network.proofs.fault.lowest_path.Given as goal
 
 abbrev pub invariant-loop-p : goal.invariant-loop-p

@@ -1,5 +1,4 @@
 -- `network::fault::ranged` meets its contract: the header's three times, each within its range.
-use borrow.Author.Rules.{rules}
 use Rattle.network.proofs.Joined.{ranged-joined}
 use Rattle.network.proofs.fault.ranged.Goals as goal
 

@@ -1,6 +1,5 @@
 -- `network::fault::sized` meets its contract: counts that passed their test are small, so the length they ask for does not wrap.
 use native.Mathlib.Omega.{arith}
-use borrow.Author.Rules.{rules}
 use Rattle.paper.proofs.Legal.{counts_to}
 use Rattle.network.proofs.Joined.{sized-joined}
 use Rattle.network.proofs.fault.sized.Goals as goal

@@ -1,5 +1,4 @@
 -- `network::field::marked` meets its contract: the two letters, one after the other.
-use borrow.Author.Rules.{rules}
 use borrow.Author.Tests.{eq-eqb, ne_eqb}
 use Rattle.paper.specs.File.{marked}
 use Rattle.network.proofs.Tests.{and_held, and_failed}

@@ -1,6 +1,5 @@
 -- `network::field::windowed` meets its contract: the host's window, or another register's.
 use mathlib.Core.Path.{◌∙◌, refl}
-use borrow.Author.Rules.{rules}
 use mir.Facts.{to_z-of_z}
 use Rattle.network.proofs.Tests.{within_same, windowed_host, windowed_other}
 use Rattle.network.proofs.field.windowed.Goals as goal

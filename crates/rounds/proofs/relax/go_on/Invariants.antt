@@ -1,11 +1,8 @@
 -- `rounds::relax::go_on` meets its contract: every turn is given a row that it may begin from, and ends the relaxation or leaves such a row,
 -- nearer to its bound, in the other slice.
-use mathlib.Core.Path.{◌≡◌, refl, sym, ap, ◌∙◌}
-use native.Mathlib.Omega.{arith}
-use lib.ListN.{length}
 use Rattle.loops.specs.Arrows.{arrows}
 use Rattle.loops.specs.Forest.{gap}
-use Rattle.rounds.proofs.Relaxes.{Relaxing, relaxing_turn, relaxing_over, between_turn, back_over, back_on, back_less}
+use Rattle.rounds.proofs.Relaxes.{Relaxing}
 use Rattle.rounds.proofs.relax.go_on.Given as goal
 
 abbrev pub invariant-loop-a : goal.invariant-loop-a

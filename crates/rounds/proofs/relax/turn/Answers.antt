@@ -1,7 +1,5 @@
 -- `rounds::relax::turn` meets its contract: the round is the model's, and each way out is one of the laws of a turn.
-use borrow.Author.Rules.{rules}
 use native.Mathlib.Omega.{arith}
-use borrow.Author.Tests.{not-true, not-false}
 use Rattle.rounds.proofs.Turns.{ready_row, after_rested, after_fair, after_preds_long, after_row_long, after_settled, after_unrooted, after_circled}
 use Rattle.rounds.proofs.relax.turn.Goals as goal
 

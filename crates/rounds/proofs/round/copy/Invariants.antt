@@ -1,11 +1,7 @@
-use mir.Syntax.{w32}
-use mir.Facts.{to_z-of_z}
 use Prim.Native.Nat.{◌-◌}
-use native.Mathlib.Omega.{arith}
-use lib.ListN.{length, get_or}
-use mir.Val.{SFits}
+use lib.ListN.{length}
 use lib.IntN.{pos}
-use Rattle.rounds.proofs.Copies.{Copied, copied_none, copied_more, copied_all}
+use Rattle.rounds.proofs.Copies.{Copied}
 use Rattle.rounds.proofs.round.copy.Given as goal
 
 abbrev pub invariant-loop-i : goal.invariant-loop-i

@@ -1,7 +1,6 @@
 use Prim.Native.Nat.{◌-◌}
-use native.Mathlib.Omega.{arith}
 use lib.ListN.{length}
-use Rattle.rounds.proofs.Copies.{Copied, copied_none, copied_more, copied_all}
+use Rattle.rounds.proofs.Copies.{Copied}
 use Rattle.rounds.proofs.round.copy_preds.Given as goal
 
 abbrev pub invariant-loop-i : goal.invariant-loop-i

@@ -3,15 +3,13 @@
 use borrow.Author.Rules.{rules}
 use mathlib.Core.Path.{◌≡◌}
 use mathlib.Core.Bool.{true, false}
-use Prim.Native.Nat.{◌<◌}
-use native.Mathlib.Omega.{arith}
 use lib.Signed.{lt_z}
 use mir.Syntax.{w32}
 use mir.Val.{SFits}
 use mir.Facts.{to_z-of_z}
 use Rattle.whole.proofs.Lin.{lin}
 use Rattle.loops.specs.Model.{at}
-use Rattle.rounds.proofs.Steps.{lift_offers, lift-below, lift_raises, lift_keeps}
+use Rattle.rounds.proofs.Steps.{lift_raises, lift_keeps}
 use Rattle.rounds.proofs.round.lift.Goals as goal
 
 pub returns-then-b-h : goal.returns-then-b-h

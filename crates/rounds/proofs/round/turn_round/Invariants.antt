@@ -1,10 +1,8 @@
 -- `rounds::round::turn_round` meets its contract: after e arrows the row, the preds and the flag are those of the model's pass over e arrows.
 -- At `from` that holds since b is a copy of the row that entered, which meets the arrows before.
-use mathlib.Core.Path.{◌∙◌, sym}
 use Prim.Native.Nat.{◌-◌}
-use native.Mathlib.Omega.{arith}
 use Rattle.loops.specs.Arrows.{arrows}
-use Rattle.rounds.proofs.Steps.{Swept, swept_met, swept_more, swept_all}
+use Rattle.rounds.proofs.Steps.{Swept}
 use Rattle.rounds.proofs.round.turn_round.Given as goal
 
 abbrev pub invariant-loop-e : goal.invariant-loop-e

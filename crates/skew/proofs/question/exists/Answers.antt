@@ -1,13 +1,10 @@
 -- `skew::question::exists` meets its contract: each way through the match tells of the rule of its kind.
 use mathlib.Core.Path.{◌≡◌}
-use native.Mathlib.Omega.{arith}
 use lib.IntN.{pos, nat_abs}
-use lib.Signed.{◌≤ℤ◌, ◌<ℤ◌}
-use mir.Facts.{to_z-of_z}
+use lib.Signed.{◌≤ℤ◌}
 use Rattle.whole.proofs.Lin.{lin}
-use Rattle.network.proofs.Counts.{natural_from}
 use Rattle.skew.proofs.Limits.{read}
-use Rattle.skew.proofs.Named.{matched, cast_is, abs_is, tells_below, tells_none, tells_setup, tells_hold, tells_low, tells_high, host_low, host_high}
+use Rattle.skew.proofs.Named.{matched, cast_is, abs_is, tells_setup, tells_hold, tells_low, tells_high}
 use Rattle.skew.proofs.question.exists.Goals as goal
 use Rattle.skew.proofs.question.exists.Goals.{Else-number-lt0}
 

@@ -1,5 +1,4 @@
 -- `skew::question::in_range` meets its contract: the three tests, joined.
-use borrow.Author.Rules.{rules}
 use Rattle.skew.proofs.Limits.{numbers-joined}
 use Rattle.skew.proofs.question.in_range.Goals as goal
 

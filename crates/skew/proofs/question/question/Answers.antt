@@ -1,9 +1,6 @@
 -- `skew::question::question` meets its contract: the file's own fault, or the reply to an accepted file. The fault is found by search, which
 -- names no place of the code: code that returns another refusal there is refused for what it returns.
-use borrow.Author.Rules.{rules}
-use Rattle.network.proofs.Verdicts.{judged_accepted}
 use Rattle.skew.proofs.Limits.{asked_read}
-use Rattle.skew.proofs.Replies.{faulty_reply}
 use Rattle.skew.proofs.question.question.Goals as goal
 
 pub returns-in-Accepted : goal.returns-in-Accepted

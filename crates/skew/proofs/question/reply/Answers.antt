@@ -2,8 +2,6 @@
 -- back, which are the numbers themselves.
 use mathlib.Core.Path.{sym, ◌∙◌}
 use mathlib.Core.List.{List}
-use borrow.Author.Rules.{rules}
-use borrow.Author.Tests.{not-true, not-false}
 use Rattle.paper.specs.File.{network_of}
 use Rattle.paper.specs.Refusals.{faults}
 use Rattle.paper.specs.declared.Reply.{Reply}
@@ -17,7 +15,7 @@ pub returns-then-not-numbers : goal.returns-then-not-numbers
 returns-then-not-numbers c =
     let at : Question = asked (read c.args.period) (read c.args.kind) (read c.args.number) (read c.args.tail) (read c.args.head) in
     let answered : (o : Reply) → FileAnswers c.args.file.now at o → FileAnswers c.args.file.now (asked c.args.period c.args.kind c.args.number c.args.tail c.args.head) o =
-        λ o a. rw (asked_read c.ranges.period c.ranges.kind c.ranges.number c.ranges.tail c.ranges.head) at a in
+    λ o a. rw (asked_read c.ranges.period c.ranges.kind c.ranges.number c.ranges.tail c.ranges.head) at a in
     let first : List Row = faults c.args.file.now in
     answered _ (question_reply _ first at c.requires (no_numbers (sym c.in_range-numbers.ensures ∙ c.if-not-numbers.true)))
 
@@ -25,7 +23,7 @@ pub returns-then-not-rule : goal.returns-then-not-rule
 returns-then-not-rule c =
     let at : Question = asked (read c.args.period) (read c.args.kind) (read c.args.number) (read c.args.tail) (read c.args.head) in
     let answered : (o : Reply) → FileAnswers c.args.file.now at o → FileAnswers c.args.file.now (asked c.args.period c.args.kind c.args.number c.args.tail c.args.head) o =
-        λ o a. rw (asked_read c.ranges.period c.ranges.kind c.ranges.number c.ranges.tail c.ranges.head) at a in
+    λ o a. rw (asked_read c.ranges.period c.ranges.kind c.ranges.number c.ranges.tail c.ranges.head) at a in
     let first : List Row = faults c.args.file.now in
     let header = c.header-header.ensures in
     answered _
@@ -36,21 +34,21 @@ pub slack-s-requires : goal.slack-s-requires
 slack-s-requires c =
     let at : Question = asked (read c.args.period) (read c.args.kind) (read c.args.number) (read c.args.tail) (read c.args.head) in
     let in_range : InRange (network_of c.args.file.now) at =
-        let header = c.header-header.ensures in
-        is_in_range c.exists-rule.result header.registers header.paths c.exists-rule.ensures
-        (sym c.in_range-numbers.ensures ∙ c.if-not-numbers.false)
-        c.if-not-rule.false in
+    let header = c.header-header.ensures in
+    is_in_range c.exists-rule.result header.registers header.paths c.exists-rule.ensures
+    (sym c.in_range-numbers.ensures ∙ c.if-not-numbers.false)
+    c.if-not-rule.false in
     record { accepted = c.requires; registers = c.header-header.ensures.registers; in_range = in_range }
 
 pub returns : goal.returns
 returns c =
     let at : Question = asked (read c.args.period) (read c.args.kind) (read c.args.number) (read c.args.tail) (read c.args.head) in
     let answered : (o : Reply) → FileAnswers c.args.file.now at o → FileAnswers c.args.file.now (asked c.args.period c.args.kind c.args.number c.args.tail c.args.head) o =
-        λ o a. rw (asked_read c.ranges.period c.ranges.kind c.ranges.number c.ranges.tail c.ranges.head) at a in
+    λ o a. rw (asked_read c.ranges.period c.ranges.kind c.ranges.number c.ranges.tail c.ranges.head) at a in
     let first : List Row = faults c.args.file.now in
     let in_range : InRange (network_of c.args.file.now) at =
-        let header = c.header-header.ensures in
-        is_in_range c.exists-rule.result header.registers header.paths c.exists-rule.ensures
-        (sym c.in_range-numbers.ensures ∙ c.if-not-numbers.false)
-        c.if-not-rule.false in
+    let header = c.header-header.ensures in
+    is_in_range c.exists-rule.result header.registers header.paths c.exists-rule.ensures
+    (sym c.in_range-numbers.ensures ∙ c.if-not-numbers.false)
+    c.if-not-rule.false in
     answered _ (slack_reply _ first at c.requires in_range c.slack-s.result c.slack-s.ensures)

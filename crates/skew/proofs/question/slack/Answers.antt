@@ -3,18 +3,16 @@
 use mathlib.Core.Path.{◌≡◌, ◌∙◌, ap₂}
 use Prim.Native.Nat.{ℕ}
 use lib.IntN.{nat_abs, ◌-ℤ◌}
-use mir.Facts.{to_z-of_z}
 use borrow.Author.Rules.{rules}
 use Rattle.whole.proofs.Lin.{lin}
 use Rattle.paper.specs.Network.{Network}
 use Rattle.paper.specs.Rules.{Setup, Hold, Low, High, base, amount}
 use Rattle.paper.specs.File.{natural, network_of}
 use Rattle.paper.specs.Question.{Question, asked, Asked}
-use Rattle.network.proofs.Counts.{natural_from}
 use Rattle.network.proofs.Ranges.{PathRanges, path_ranges, register_ranges}
 use Rattle.rules.proofs.Ranges.{small_register, small_ends}
 use Rattle.skew.proofs.Limits.{read, period_is, tail_small, head_small, amount_is_small, period_fits}
-use Rattle.skew.proofs.Named.{matched, cast_is, number_from, named, named-last, asked-slack}
+use Rattle.skew.proofs.Named.{matched, cast_is, named, named-last, asked-slack}
 use Rattle.skew.proofs.question.slack.Goals as goal
 
 pub register-receiver-requires : goal.register-receiver-requires
@@ -23,9 +21,9 @@ register-receiver-requires c =
     let net : Network = network_of c.args.file.now in
     let at : Question = asked c.args.period.0 c.args.kind c.args.number c.args.tail.0 c.args.head.0 in
     let is_setup : Asked net at (Setup k) =
-        named c.requires (Setup k) (matched c.ranges.kind c.in-0.in-0-own.keys1) (cast_is c.ranges.number) in
+    named c.requires (Setup k) (matched c.ranges.kind c.in-0.in-0-own.keys1) (cast_is c.ranges.number) in
     let road_ranges : PathRanges c.args.n c.path-road.result =
-        path_ranges c.args.file.now c.args.n k c.path-road.result c.requires.accepted c.requires.registers is_setup.exists c.path-road.ensures in
+    path_ranges c.args.file.now c.args.n k c.path-road.result c.requires.accepted c.requires.registers is_setup.exists c.path-road.ensures in
     let p = c.requires in (p.accepted, rw p.registers at road_ranges.to)
 
 pub setup-requires : goal.setup-requires
@@ -34,9 +32,9 @@ setup-requires c =
     let net : Network = network_of c.args.file.now in
     let at : Question = asked c.args.period.0 c.args.kind c.args.number c.args.tail.0 c.args.head.0 in
     let is_setup : Asked net at (Setup k) =
-        named c.requires (Setup k) (matched c.ranges.kind c.in-0.in-0-own.keys1) (cast_is c.ranges.number) in
+    named c.requires (Setup k) (matched c.ranges.kind c.in-0.in-0-own.keys1) (cast_is c.ranges.number) in
     let road_ranges : PathRanges c.args.n c.path-road.result =
-        path_ranges c.args.file.now c.args.n k c.path-road.result c.requires.accepted c.requires.registers is_setup.exists c.path-road.ensures in
+    path_ranges c.args.file.now c.args.n k c.path-road.result c.requires.accepted c.requires.registers is_setup.exists c.path-road.ensures in
     let r = road_ranges in
     small_ends r (register_ranges c.args.file.now _ _ c.requires.accepted (rw c.requires.registers at r.to) c.register-receiver.ensures)
 
@@ -46,10 +44,10 @@ setup_at-amount-requires c =
     let net : Network = network_of c.args.file.now in
     let at : Question = asked c.args.period.0 c.args.kind c.args.number c.args.tail.0 c.args.head.0 in
     let is_setup : Asked net at (Setup k) =
-        named c.requires (Setup k) (matched c.ranges.kind c.in-0.in-0-own.keys1) (cast_is c.ranges.number) in
+    named c.requires (Setup k) (matched c.ranges.kind c.in-0.in-0-own.keys1) (cast_is c.ranges.number) in
     let setup_base : c.setup.result.0 ≡ base net (Setup k) =
-        let road = c.path-road.ensures in
-        c.setup.ensures net k road (rw road.to at c.register-receiver.ensures) in
+    let road = c.path-road.ensures in
+    c.setup.ensures net k road (rw road.to at c.register-receiver.ensures) in
     period_fits c.requires k is_setup setup_base
 
 pub slack-requires : goal.slack-requires
@@ -58,13 +56,13 @@ slack-requires c =
     let net : Network = network_of c.args.file.now in
     let at : Question = asked c.args.period.0 c.args.kind c.args.number c.args.tail.0 c.args.head.0 in
     let is_setup : Asked net at (Setup k) =
-        named c.requires (Setup k) (matched c.ranges.kind c.in-0.in-0-own.keys1) (cast_is c.ranges.number) in
+    named c.requires (Setup k) (matched c.ranges.kind c.in-0.in-0-own.keys1) (cast_is c.ranges.number) in
     let P : ℕ = natural c.args.period.0 in
     let setup_base : c.setup.result.0 ≡ base net (Setup k) =
-        let road = c.path-road.ensures in
-        c.setup.ensures net k road (rw road.to at c.register-receiver.ensures) in
+    let road = c.path-road.ensures in
+    c.setup.ensures net k road (rw road.to at c.register-receiver.ensures) in
     let setup_amount : c.setup_at-amount.result.0 ≡ amount net P (Setup k) =
-        c.setup_at-amount.ensures ∙ ap₂ ◌-ℤ◌ setup_base (period_is c.requires.in_range.period_within) in
+    c.setup_at-amount.ensures ∙ ap₂ ◌-ℤ◌ setup_base (period_is c.requires.in_range.period_within) in
     let p = c.requires in
     let t = tail_small p in
     let h = head_small p in
@@ -80,9 +78,9 @@ register-receiver-requires-in-1 c =
     let net : Network = network_of c.args.file.now in
     let at : Question = asked c.args.period.0 c.args.kind c.args.number c.args.tail.0 c.args.head.0 in
     let is_hold : Asked net at (Hold k) =
-        named c.requires (Hold k) (matched c.ranges.kind c.in-1.in-1-own.keys2) (cast_is c.ranges.number) in
+    named c.requires (Hold k) (matched c.ranges.kind c.in-1.in-1-own.keys2) (cast_is c.ranges.number) in
     let road_ranges_2 : PathRanges c.args.n c.path-road-in-1.result =
-        path_ranges c.args.file.now c.args.n k c.path-road-in-1.result c.requires.accepted c.requires.registers is_hold.exists c.path-road-in-1.ensures in
+    path_ranges c.args.file.now c.args.n k c.path-road-in-1.result c.requires.accepted c.requires.registers is_hold.exists c.path-road-in-1.ensures in
     let p = c.requires in (p.accepted, rw p.registers at road_ranges_2.to)
 
 pub hold-requires : goal.hold-requires
@@ -91,9 +89,9 @@ hold-requires c =
     let net : Network = network_of c.args.file.now in
     let at : Question = asked c.args.period.0 c.args.kind c.args.number c.args.tail.0 c.args.head.0 in
     let is_hold : Asked net at (Hold k) =
-        named c.requires (Hold k) (matched c.ranges.kind c.in-1.in-1-own.keys2) (cast_is c.ranges.number) in
+    named c.requires (Hold k) (matched c.ranges.kind c.in-1.in-1-own.keys2) (cast_is c.ranges.number) in
     let road_ranges_2 : PathRanges c.args.n c.path-road-in-1.result =
-        path_ranges c.args.file.now c.args.n k c.path-road-in-1.result c.requires.accepted c.requires.registers is_hold.exists c.path-road-in-1.ensures in
+    path_ranges c.args.file.now c.args.n k c.path-road-in-1.result c.requires.accepted c.requires.registers is_hold.exists c.path-road-in-1.ensures in
     let r = road_ranges_2 in
     small_ends r (register_ranges c.args.file.now _ _ c.requires.accepted (rw c.requires.registers at r.to) c.register-receiver-in-1.ensures)
 
@@ -103,11 +101,11 @@ slack-requires-in-1 c =
     let net : Network = network_of c.args.file.now in
     let at : Question = asked c.args.period.0 c.args.kind c.args.number c.args.tail.0 c.args.head.0 in
     let is_hold : Asked net at (Hold k) =
-        named c.requires (Hold k) (matched c.ranges.kind c.in-1.in-1-own.keys2) (cast_is c.ranges.number) in
+    named c.requires (Hold k) (matched c.ranges.kind c.in-1.in-1-own.keys2) (cast_is c.ranges.number) in
     let P : ℕ = natural c.args.period.0 in
     let hold_amount : c.hold.result.0 ≡ amount net P (Hold k) =
-        let road = c.path-road-in-1.ensures in
-        c.hold.ensures net k road (rw road.to at c.register-receiver-in-1.ensures) in
+    let road = c.path-road-in-1.ensures in
+    c.hold.ensures net k road (rw road.to at c.register-receiver-in-1.ensures) in
     let p = c.requires in
     let t = tail_small p in
     let h = head_small p in
@@ -123,7 +121,7 @@ low-requires c =
     let net : Network = network_of c.args.file.now in
     let at : Question = asked c.args.period.0 c.args.kind c.args.number c.args.tail.0 c.args.head.0 in
     let is_low : Asked net at (Low k) =
-        named c.requires (Low k) (matched c.ranges.kind c.in-2.in-2-own.keys3) (cast_is c.ranges.number) in
+    named c.requires (Low k) (matched c.ranges.kind c.in-2.in-2-own.keys3) (cast_is c.ranges.number) in
     small_register (register_ranges c.args.file.now k _ c.requires.accepted is_low.exists.1 c.register.ensures)
 
 pub slack-requires-in-2 : goal.slack-requires-in-2
@@ -132,7 +130,7 @@ slack-requires-in-2 c =
     let net : Network = network_of c.args.file.now in
     let at : Question = asked c.args.period.0 c.args.kind c.args.number c.args.tail.0 c.args.head.0 in
     let is_low : Asked net at (Low k) =
-        named c.requires (Low k) (matched c.ranges.kind c.in-2.in-2-own.keys3) (cast_is c.ranges.number) in
+    named c.requires (Low k) (matched c.ranges.kind c.in-2.in-2-own.keys3) (cast_is c.ranges.number) in
     let P : ℕ = natural c.args.period.0 in
     let low_amount : c.low.result.0 ≡ amount net P (Low k) = c.low.ensures net k c.register.ensures in
     let p = c.requires in
@@ -150,8 +148,8 @@ high-requires c =
     let net : Network = network_of c.args.file.now in
     let at : Question = asked c.args.period.0 c.args.kind c.args.number c.args.tail.0 c.args.head.0 in
     let is_high : Asked net at (High k) =
-        let n = c.in_default.in_default-own.rest in
-        named c.requires (High k) (named-last c.requires n.0.0.1 n.0.1 n.1) (cast_is c.ranges.number) in
+    let n = c.in_default.in_default-own.rest in
+    named c.requires (High k) (named-last c.requires n.0.0.1 n.0.1 n.1) (cast_is c.ranges.number) in
     small_register (register_ranges c.args.file.now k _ c.requires.accepted is_high.exists.1 c.register-in_default.ensures)
 
 pub slack-requires-in_default : goal.slack-requires-in_default
@@ -160,8 +158,8 @@ slack-requires-in_default c =
     let net : Network = network_of c.args.file.now in
     let at : Question = asked c.args.period.0 c.args.kind c.args.number c.args.tail.0 c.args.head.0 in
     let is_high : Asked net at (High k) =
-        let n = c.in_default.in_default-own.rest in
-        named c.requires (High k) (named-last c.requires n.0.0.1 n.0.1 n.1) (cast_is c.ranges.number) in
+    let n = c.in_default.in_default-own.rest in
+    named c.requires (High k) (named-last c.requires n.0.0.1 n.0.1 n.1) (cast_is c.ranges.number) in
     let P : ℕ = natural c.args.period.0 in
     let high_amount : c.high.result.0 ≡ amount net P (High k) = c.high.ensures net k c.register-in_default.ensures in
     let p = c.requires in
@@ -179,13 +177,13 @@ returns-in-0 c =
     let net : Network = network_of c.args.file.now in
     let at : Question = asked c.args.period.0 c.args.kind c.args.number c.args.tail.0 c.args.head.0 in
     let is_setup : Asked net at (Setup k) =
-        named c.requires (Setup k) (matched c.ranges.kind c.in-0.in-0-own.keys1) (cast_is c.ranges.number) in
+    named c.requires (Setup k) (matched c.ranges.kind c.in-0.in-0-own.keys1) (cast_is c.ranges.number) in
     let P : ℕ = natural c.args.period.0 in
     let setup_base : c.setup.result.0 ≡ base net (Setup k) =
-        let road = c.path-road.ensures in
-        c.setup.ensures net k road (rw road.to at c.register-receiver.ensures) in
+    let road = c.path-road.ensures in
+    c.setup.ensures net k road (rw road.to at c.register-receiver.ensures) in
     let setup_amount : c.setup_at-amount.result.0 ≡ amount net P (Setup k) =
-        c.setup_at-amount.ensures ∙ ap₂ ◌-ℤ◌ setup_base (period_is c.requires.in_range.period_within) in
+    c.setup_at-amount.ensures ∙ ap₂ ◌-ℤ◌ setup_base (period_is c.requires.in_range.period_within) in
     asked-slack (Setup k) is_setup setup_amount c.slack.ensures
 
 pub returns-in-1 : goal.returns-in-1
@@ -194,9 +192,9 @@ returns-in-1 c =
     let net : Network = network_of c.args.file.now in
     let at : Question = asked c.args.period.0 c.args.kind c.args.number c.args.tail.0 c.args.head.0 in
     let is_hold : Asked net at (Hold k) =
-        named c.requires (Hold k) (matched c.ranges.kind c.in-1.in-1-own.keys2) (cast_is c.ranges.number) in
+    named c.requires (Hold k) (matched c.ranges.kind c.in-1.in-1-own.keys2) (cast_is c.ranges.number) in
     let P : ℕ = natural c.args.period.0 in
     let hold_amount : c.hold.result.0 ≡ amount net P (Hold k) =
-        let road = c.path-road-in-1.ensures in
-        c.hold.ensures net k road (rw road.to at c.register-receiver-in-1.ensures) in
+    let road = c.path-road-in-1.ensures in
+    c.hold.ensures net k road (rw road.to at c.register-receiver-in-1.ensures) in
     asked-slack (Hold k) is_hold hold_amount c.slack-in-1.ensures

@@ -7,8 +7,7 @@ use Rattle.paper.specs.File.{network_of}
 use Rattle.paper.specs.Refusals.{Accepted, faults}
 use Rattle.paper.proofs.Legal.{accepted_legal}
 use Rattle.network.proofs.Verdicts.{judged_accepted}
-use Rattle.skew.proofs.Results.{result_fault, result_room, result_solved}
-use borrow.Author.Rules.{rules}
+use Rattle.skew.proofs.Results.{result_solved}
 use Rattle.skew.proofs.schedule.schedule.Goals as goal
 
 pub overflow_mul-n : goal.overflow_mul-n
@@ -17,7 +16,7 @@ overflow_mul-n c =
     let counted : c.header-h.result.registers ≡ (network_of file_of).registers = c.header-h.ensures.registers in
     let accepted : Accepted file_of = judged_accepted _ _ c.judge-verdict.ensures c.in-Accepted.is in
     let few : c.header-h.result.registers ≤ 256 =
-        let e = counted in let t = (accepted_legal _ accepted).registers_to in omega arith in
+    let e = counted in let t = (accepted_legal _ accepted).registers_to in omega arith in
     omega (arith, few)
 
 pub overflow_add-n : goal.overflow_add-n
@@ -26,7 +25,7 @@ overflow_add-n c =
     let counted : c.header-h.result.registers ≡ (network_of file_of).registers = c.header-h.ensures.registers in
     let accepted : Accepted file_of = judged_accepted _ _ c.judge-verdict.ensures c.in-Accepted.is in
     let few : c.header-h.result.registers ≤ 256 =
-        let e = counted in let t = (accepted_legal _ accepted).registers_to in omega arith in
+    let e = counted in let t = (accepted_legal _ accepted).registers_to in omega arith in
     omega (arith, few)
 
 pub returns-else-out-n : goal.returns-else-out-n
