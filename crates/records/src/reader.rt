@@ -1,6 +1,5 @@
 // A reader holds the lent file and the place of a record in it. It hands out the record there, with the next place. It is kept thin: the
-// work is in `record_at`, on a slice and a number. The borrow checker covers no function over a struct that holds a reference, so `open`
-// and `record`, and `read` above them, are each proved by hand. All others call `read`, whose parameters are plain.
+// work is in `record_at`, on a slice and a number. All others call `read`, whose parameters are plain.
 ghost use Rattle.std.specs.Prelude.{◌≡◌, ◌+◌, ◌≤◌, length};
 ghost use Rattle.records.specs.Records.{IsRecord};
 
