@@ -1,11 +1,12 @@
 -- Counting the setup rules among the rules at listed places, place by place: a place of kind 0 is one more, and any other is none. Rests on
 -- `map_more` of `loops`.
 use mathlib.Core.Path.{◌≡◌, refl}
-use mathlib.Core.Logic.{◌≢◌}
 use mathlib.Core.Bool.{Bool, true, false, cond}
 use mathlib.Core.List.{List, [], ◌∷◌, ◌++◌, map}
 use Prim.Native.Nat.{ℕ, ◌+◌, ◌≤◌, ◌<◌}
 use native.Mathlib.Omega.{arith}
+use native.Mathlib.Decide.{ℕ_discrete}
+use mathlib.Core.Logic.{◌≢◌}
 use lib.Dec.{eqb}
 use lib.ListN.{length, get_or, take}
 use borrow.Author.Tests.{eq-eqb, ne_eqb}
@@ -75,3 +76,12 @@ module _ (kinds ring : List ℕ) (entries : ℕ) where
           most = omega arith;
           is = λ numbers. omega (arith, more numbers, kind_other (get_or kinds (get_or ring j 0) 0) (get_or numbers (get_or ring j 0) 0) k);
         }
+
+    -- so much for either kind
+    pub counted_next : (next : ℕ) → (get_or kinds (get_or ring j 0) 0 ≡ 0 → next ≡ count + 1) → (get_or kinds (get_or ring j 0) 0 ≢ 0 → next ≡ count)
+        → Counted kinds ring entries (j + 1) next
+    counted_next next more same = go (ℕ_discrete (get_or kinds (get_or ring j 0) 0) 0)
+      where
+        go : Dec (get_or kinds (get_or ring j 0) 0 ≡ 0) → Counted kinds ring entries (j + 1) next
+        go (yes e) = rw (more e) (counted-setup e)
+        go (no e) = rw (same e) (counted_other e)
