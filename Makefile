@@ -34,14 +34,16 @@ export pc
 .PHONY: all install install-library uninstall uninstall-library always
 all: $(library)
 
-# Change times are read, as tools/run reads them, since a copy may set back those of the content. The library gets the time at which the
-# proving began, so that what changed meanwhile counts as newer. The lock is that of tools/run: one run proves at a time.
-unread = -name must-fail -o -name stdin -o -name stdout
+# Change times are read, as tools/run reads them, since a copy may set back those of the content; not that of a crate's own folder, which changes
+# with its out/. The library gets the time at which the proving began, so that what changed meanwhile counts as newer. The lock is that of
+# tools/run: one run proves at a time.
+unread = -regex 'crates/[^/]*/\(must-fail\|twins\|stdin\|stdout\|out\)'
 target/staticlib/libskew_c.a: always
-	@[ -e $@ ] && [ -z "$$(find -L crates.txt crates \( $(unread) \) -prune -o -cnewer $@ -print -quit)" ] || { \
+	@[ -e $@ ] && [ -z "$$(find -L crates.txt crates $(unread) -prune -o ! -regex 'crates/[^/]*' -cnewer $@ -print -quit)" ] || { \
 	    command -v rt >/dev/null || { echo 'make: the library must be proved, and rt is missing: put the Rattle kit on the PATH' >&2; exit 1; }; \
 	    echo 'make: proving and building the library, some minutes where nothing is proved yet'; \
-	    mkdir -p target && touch target/proving-library && flock crates.txt rt staticlib skew_c && touch -r target/proving-library $@; }
+	    mkdir -p $(@D) && touch target/proving-library && (cd crates/skew_c && flock ../../crates.txt rt lib skew_c) && \
+	    cp crates/skew_c/out/libskew_c.a $@.new && touch -r target/proving-library $@.new && mv -f $@.new $@; }
 
 install: install-library
 uninstall: uninstall-library

@@ -18,19 +18,19 @@ HEADER, RECORD = 22, 18
 
 TOP = """-- The files of the worked networks, byte by byte and a line for each record, as `exam` has them for its stored input: tools/case_bytes.py
 -- writes this file from them. What stands in the definitions and what is run are so the same bytes. Rests on the definitions alone.
-use mathlib.Core.Path.{_≡_, refl}
-use mathlib.Core.List.{[], _∷_}
-use Rattle·whole.specs.Four.{wordOf, bytesOf, four}
-use Rattle·worked·specs.specs.Cases.{fileOf, PAPER}
-use Rattle·worked·specs.specs.RequestCases.{REQUESTS}
+use mathlib.Core.Path.{◌≡◌, refl}
+use mathlib.Core.List.{[], ◌∷◌}
+use Rattle.whole.specs.Four.{word_of, bytes_of, four}
+use Rattle.worked.specs.Cases.{file_of, PAPER}
+use Rattle.worked.specs.RequestCases.{REQUESTS}
 """
 
 STATEMENT = """
-file-NAME : fileOf (caseNAME .network)
+file_NAME : file_of case_NAME.network
     ≡ BYTES
     ∷ []
-unfolding fileOf four bytesOf wordOf
-file-NAME = refl
+unfolding file_of four bytes_of word_of
+file_NAME = refl
 """
 
 
@@ -63,11 +63,11 @@ def records(file):
 
 def statement(name, file):
     lines = "\n    ∷ ".join(" ∷ ".join(map(str, record)) for record in records(file))
-    return STATEMENT.replace("NAME", name).replace("BYTES", lines)
+    return STATEMENT.replace("NAME", name.lower()).replace("BYTES", lines)
 
 
 def cases(names):
-    return ", ".join("case" + name for name in names)
+    return ", ".join("case_" + name.lower() for name in names)
 
 
 def module(data):

@@ -6,6 +6,9 @@ moves with every change of the code. This writes `y-at-x c` for it, and above th
 of at most three steps or by way of another name. Answers that are `search needs` alone go into the list of answers.
 
 The places come from `rt goals CRATE`. Read what it wrote, then `rt fmt` and `rt dev CRATE`: the prover says whether it is right.
+
+It serves proofs by hand-written walks, of which crates/ has none any more, and by two commands that today's kit lacks: what stands today is
+`rt check --start F --allow-holes` in a crate's folder, which prints the goals of a function F without a proof and the names that one can use.
 """
 import pathlib
 import re

@@ -8,10 +8,14 @@ from pathlib import Path
 
 ROOT = Path(__file__).resolve().parent.parent
 SYSTEM = "/usr/bin:/bin"
-# Each check is noted in the file `checks`; the file `while-proving`, where there is one, is run before the program is there.
+# Each proof is noted in the file `checks`; the file `while-proving`, where there is one, is run before the program is there.
 RT = """#!/bin/sh
 case $1 in
-check) echo "$2" >>checks; [ ! -f while-proving ] || . ./while-proving; mkdir -p target/bin; cp program "target/bin/$2"; echo 'rt: ok' ;;
+run)
+    cd ../.. || exit 2
+    echo "$2" >>checks
+    [ ! -f while-proving ] || . ./while-proving
+    mkdir -p "crates/$2/out"; cp program "crates/$2/out/$2"; echo 'rt: ok' ;;
 ci) . ./ci ;;
 version) echo 'some kit' ;;
 esac
@@ -29,7 +33,7 @@ class Scratch:
         self.write("crates.txt", "base:\nlisting: base io\nskewlist: listing\nother: base\n")
         for name in ("base/src/lib.rt", "listing/specs/Lib.antt", "listing/proofs/f/Proof.antt", "other/src/lib.rt"):
             self.write(f"crates/{name}", "")
-        for name in ("src/main.rt", "stdin", "stdout", "must-fail/a.edit"):
+        for name in ("src/main.rt", "stdin", "stdout", "must-fail/a.edit", "twins/a.twin"):
             self.write(f"crates/skewlist/{name}", "")
         self.write("program", PROGRAM, runs=True)
         self.write("bin/rt", RT, runs=True)

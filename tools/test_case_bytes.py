@@ -30,7 +30,8 @@ class Stored(unittest.TestCase):
     def test_the_module_has_every_byte(self):
         for name, (_, file) in zip(case_bytes.NAMES, case_bytes.requests(self.data), strict=True):
             with self.subTest(name):
-                said = self.text.split(f"\nfile-{name} : fileOf (case{name} .network)\n    ≡ ")[1].split("∷ []")[0]
+                low = name.lower()
+                said = self.text.split(f"\nfile_{low} : file_of case_{low}.network\n    ≡ ")[1].split("∷ []")[0]
                 self.assertEqual(bytes(int(word) for word in said.split("∷") if word.strip()), file)
 
     def test_another_byte_makes_another_module(self):

@@ -4,7 +4,7 @@
 import unittest
 from pathlib import Path
 
-from scratch import SYSTEM, Scratch
+from scratch import RT, SYSTEM, Scratch
 
 LAST = "1 passed, 0 failed"
 
@@ -40,6 +40,31 @@ class Gate(unittest.TestCase):
         self.assertEqual((status, out.splitlines()[-1]), (1, ".ci/run: the checks beside the proofs failed"))
         self.ci("echo 0 passed, 1 failed; exit 3")
         self.assertEqual(self.scratch.run(".ci/run"), (3, "0 passed, 1 failed\n", ""))
+
+    def test_a_bad_must_fail_edit_fails_the_gate(self):
+        told = "rt: ok; handles allowed: none; must-fail edits: 89 refused%s; every proof and must-fail edit was done in this run"
+        for words, due in (("", 0), (", 2 of them only by a limit", 0), (", 0 bad", 0), (", 1 bad", 1), (", 2 of them only by a limit, 10 bad", 1)):
+            with self.subTest(words):
+                self.ci(f"echo '{told % words}'; echo {LAST}")
+                status, out, _ = self.scratch.run(".ci/run")
+                self.assertEqual((status, "beside" in out, out.endswith(f"{LAST}\n")), (due, not due, not due))
+                self.assertEqual("some must-fail edit is bad" in out, bool(due))
+
+    def test_rt_ci_is_called_plainly_with_nothing_before(self):
+        self.scratch.write("bin/rt", RT.replace("case", f"echo \"$*\" >>{self.scratch.root}/calls\ncase", 1), runs=True)
+        self.assertEqual(self.scratch.run(".ci/run")[0], 0)
+        calls = (self.scratch.root / "calls").read_text().splitlines()
+        self.assertEqual([call for call in calls if call != "version"], ["ci"])
+
+    def test_what_the_gate_built_is_what_is_run_from_then_on(self):
+        built = "cp program crates/skewlist/out/skewlist"
+        self.ci(f"mkdir -p crates/skewlist/out; {built}; echo {LAST}")
+        self.beside("tools/run skewlist")
+        self.assertEqual(self.scratch.run(".ci/run"), (0, f"period 9\n{LAST}\n", ""))
+        self.assertEqual(self.scratch.checks(), 0)
+        self.ci(f"sleep 0.02; touch crates/base/src/lib.rt; {built}; echo {LAST}")
+        self.assertIn("proving and building skewlist first", self.scratch.run(".ci/run")[2])
+        self.assertEqual(self.scratch.checks(), 1)
 
     def test_another_kit_is_said_first_and_last(self):
         self.scratch.write(".ci/kit", "the kit\n")

@@ -16,9 +16,9 @@ from scratch import SYSTEM
 INSTALLED = ["include/skew.h", "lib/libskew_c.a", "lib/pkgconfig/mileparcel.pc"]
 # Each call is noted in the file `calls`; the file `while-proving`, where there is one, is run before the library is there.
 RT = """#!/bin/sh
-echo "$*" >>calls
+cd ../.. && echo "$*" >>calls
 [ ! -f while-proving ] || . ./while-proving
-mkdir -p target/staticlib && cp ready target/staticlib/libskew_c.a
+mkdir -p crates/skew_c/out && cp ready crates/skew_c/out/libskew_c.a
 """
 
 
@@ -55,8 +55,8 @@ class Building(WithFolder):
 
     def setUp(self):
         super().setUp()
-        self.write("crates.txt", "skew_c:\n")
-        for name in ("src/lib.rt", "specs/Lib.antt", "must-fail/a.edit", "stdin", "stdout"):
+        self.write("crates.txt", "skew_c staticlib:\n")
+        for name in ("src/lib.rt", "specs/Lib.antt", "must-fail/a.edit", "twins/a.twin", "stdin", "stdout", "out/rlib/stamp"):
             self.write(f"crates/skew_c/{name}", "")
         self.write("ready", "the library\n")
         self.write("bin/rt", RT, 0o755)
@@ -73,13 +73,13 @@ class Building(WithFolder):
     def test_the_library_is_built_where_it_is_missing_or_old(self):
         for _ in range(2):
             self.assertEqual(self.make(), (0, ""))
-            self.assertEqual(self.calls(), ["staticlib skew_c"])
+            self.assertEqual(self.calls(), ["lib skew_c"])
         for count, name in enumerate(["crates/skew_c/src/lib.rt", "crates/skew_c/src/new.rt", "crates.txt"], start=2):
             self.touch(name)
             self.make()
             self.make()
             self.assertEqual(len(self.calls()), count, name)
-        for name in ("must-fail/a.edit", "must-fail/b.edit", "stdin", "stdout"):
+        for name in ("must-fail/a.edit", "must-fail/b.edit", "twins/a.twin", "stdin", "stdout", "out/rlib/stamp", "out/more"):
             self.touch(f"crates/skew_c/{name}")
             self.make()
             self.assertEqual(len(self.calls()), 4, name)

@@ -1,7 +1,7 @@
 #!/usr/bin/env python3
 """Tests of the proved library as a C program calls it through include/skew.h: python3 test_library.py
 
-They need target/staticlib/libskew_c.a, which `make` or `rt staticlib skew_c` writes, and are left out where it is not there.
+They need target/staticlib/libskew_c.a, which `make` or `examples/build` writes, and are left out where it is not there.
 """
 
 import platform

@@ -45,8 +45,9 @@ class Key(unittest.TestCase):
         for pattern in READ:
             paths = sorted((ROOT / "crates").glob(pattern))
             self.assertTrue(paths, pattern)
-            met = met.union(*(signs(path.read_text(encoding="utf-8")) for path in paths))
-        self.assertIn("⌜", met)
+            here = set().union(*(signs(path.read_text(encoding="utf-8")) for path in paths))
+            self.assertIn("≡", here, pattern)
+            met |= here
         self.assertEqual(met - set("".join(self.rows)), set())
 
     def test_a_wrong_row_is_found(self):

@@ -15,9 +15,9 @@ BESIDE = {"|": [(-1, 0), (1, 0)], "-": [(0, -1), (0, 1)], "+": [(-1, 0), (1, 0),
 
 
 def crates(text):
-    """What each crate of crates.txt depends on, of the crates in it."""
+    """What each crate of crates.txt depends on, of the crates in it; behind a crate's name may stand its kind."""
     lines = [line.split("#")[0].split(":") for line in text.splitlines()]
-    named = {line[0].strip(): line[1].split() for line in lines if len(line) == 2}
+    named = {line[0].split()[0]: line[1].split() for line in lines if len(line) == 2}
     return {name: {other for other in others if other in named} for name, others in named.items()}
 
 

@@ -91,7 +91,7 @@ def files():
     for place in PLACES:
         for path in [ROOT / place] if (ROOT / place).is_file() else sorted((ROOT / place).rglob("*")):
             parts = path.relative_to(ROOT).parts
-            stored = "target" in parts or (place == "crates" and not path.suffix)
+            stored = "target" in parts or (place == "crates" and (not path.suffix or parts[2] == "out"))
             if path.is_file() and path.suffix in SIGNS and not stored and path != Path(__file__).resolve():
                 yield path
 

@@ -42,7 +42,9 @@ class Proving(WithScratch):
         self.assertIn("3 to 4 minutes", err)
         self.assertIn("target/prove-skewlist.log", err)
         self.assertEqual((self.scratch.root / "target/prove-skewlist.log").read_text(), "rt: ok\n")
-        for name in ("skewlist/must-fail/a.edit", "skewlist/must-fail/b.edit", "skewlist/stdin", "skewlist/stdout", "other/src/lib.rt"):
+        self.scratch.write("crates/base/out/rlib/stamp", "")
+        beside = ["must-fail/a.edit", "must-fail/b.edit", "twins/a.twin", "twins/b.twin", "stdin", "stdout", "out/skewlist", "out/more"]
+        for name in [*(f"skewlist/{name}" for name in beside), "base/out/rlib/stamp", "base/out/rlib", "other/src/lib.rt"]:
             self.touch(f"crates/{name}")
             self.assertEqual(self.run_it(), (0, "period 9\n", ""), name)
         self.assertEqual(self.scratch.checks(), 1)
@@ -77,6 +79,11 @@ class Proving(WithScratch):
         status, out, err = self.run_it()
         self.assertEqual((status, out), (6, ""))
         self.assertIn("rt: FAILED: base", err)
+
+    def test_a_crate_that_is_no_program_is_told(self):
+        for name in ("base", "no-crate"):
+            self.assertEqual(self.scratch.run("tools/run", name), (6, "", f"tools/run: {name} is no program\n"))
+        self.assertEqual(self.scratch.checks(), 0)
 
     @unittest.skipIf(any((Path(folder) / "rt").exists() for folder in SYSTEM.split(":")), "rt is among the system's commands")
     def test_a_missing_kit_is_told(self):

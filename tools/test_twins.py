@@ -16,7 +16,7 @@ LOADER.exec_module(twins)
 FILES = {"src/lib.rt": "a\nlet x = 1;\nlet y = 1;\n", "specs/Lib.antt": "f = 0\n"}
 # A stand-in for `rt`: it accepts whatever has no 'wrong' in it, and does not come to a proof of what has 'nonsense' in it.
 RT = """#!/bin/sh
-file=$PWD/crates/$2/src/lib.rt
+file=$PWD/src/lib.rt
 if grep -q nonsense "$file"; then echo "$file:1:1: error: it is nonsense"; exit 1; fi
 if grep -q wrong "$file"; then echo "$file:1:1: error: it is wrong"; echo logic=not-proved; exit 1; fi
 """
@@ -62,10 +62,12 @@ class Trying(unittest.TestCase):
         self.scratch.copy("tools/twins")
         self.scratch.write("bin/rt", RT, runs=True)
         self.scratch.write("crates/base/src/lib.rt", "right\n")
-        (self.scratch.root / "crates/skewlist/must-fail/a.edit").unlink()
+        for name in ("must-fail/a.edit", "twins/a.twin"):
+            (self.scratch.root / "crates/skewlist" / name).unlink()
 
     def edit(self, name, old, new):
-        self.scratch.write(f"crates/base/must-fail/{name}", f"file: src/lib.rt\nold: {old}\nnew: {new}\n")
+        folder = twins.FOLDERS[name[-5:]]
+        self.scratch.write(f"crates/base/{folder}/{name}", f"file: src/lib.rt\nold: {old}\nnew: {new}\n")
 
     def twins(self, *words):
         status, out, err = self.scratch.run("tools/twins", *words)
@@ -111,12 +113,18 @@ class Kept(unittest.TestCase):
     """The twins of the crates."""
 
     def test_every_twin_has_its_edit_and_both_can_be_applied(self):
-        for path in sorted(ROOT.glob("crates/*/must-fail/*.twin")):
+        for path in sorted(ROOT.glob("crates/*/twins/*.twin")):
             with self.subTest(str(path.relative_to(ROOT))):
-                edit = path.with_suffix(".edit")
+                edit = path.parent.parent / "must-fail" / f"{path.stem}.edit"
                 self.assertTrue(edit.exists())
                 changed = [twins.edited(twins.content_in(path.parent.parent), one.read_text()) for one in (edit, path)]
                 self.assertNotEqual(*changed)
+
+    def test_every_edit_and_twin_stands_in_its_folder(self):
+        # What else stands in must-fail/ `rt ci` counts as a bad edit.
+        self.assertEqual([path for path in ROOT.glob("crates/*/must-fail/*") if path.suffix != ".edit"], [])
+        self.assertEqual([path for path in ROOT.glob("crates/*/twins/*") if path.suffix != ".twin"], [])
+        self.assertGreaterEqual(len([*ROOT.glob("crates/*/twins/*")]), 80)
 
 
 if __name__ == "__main__":

@@ -45,7 +45,7 @@ fn folder() -> Result<PathBuf, String> {
         let [release, repository] = places.map(|place| place.display().to_string());
         format!(
             "{LIBRARY} is neither in {release} (a release has it there) nor in {repository}: \
-             run `rt staticlib skew_c` in the repository, or set {VARIABLE} to the folder that has it"
+             run `make` in the repository, or set {VARIABLE} to the folder that has it"
         )
     })
 }
