@@ -3,10 +3,10 @@
 
 usage: python3 tools/respell.py [--names] [FOLDER..]
 
-It runs once, behind the kit's port.py, at the top of the repository; each FOLDER is another copy of it. A dash stays only where it joins two
-names, as in 'total-append'. Names that only a function's own Proof.antt declares stay, as do the names of the library, Rust's names, strings,
+It runs behind the kit's port.py, at the top of the repository; each FOLDER is another copy of it. A dash stays only where it joins a definition's
+name to that of a function of lists, as in 'total-append'. Names that only a function's own Proof.antt declares stay, as do the names of the library, Rust's names, strings,
 and comments but for what stands in backticks. With --names it changes nothing and prints each old name and its new one.
-It stops where two names would fall together.
+It stops where two names would fall together in one file; names of files that do not meet may become one.
 """
 import os
 import re
@@ -18,8 +18,11 @@ DECLARED = re.compile(rf"(?m)^ *((?:abbrev |pub |unfoldable |record |data )*)({N
 RULESET = re.compile(rf"(?m)^ *(?:pub )?ruleset ({NAME}) =")
 # A definition of specs/, in whose name a lemma's dash may end.
 DEFINED = re.compile(rf"(?m)^ *(?:abbrev |unfoldable )(?:pub )?({NAME})(?: \{{[^{{}}\n]*\}})* :(?=[ \n])")
-OF_LISTS = set("append length take drop set sets map get_or reverse le lt eq true false none some first last add mul sub".split())
+# The functions of lists that a lemma's name may join to a definition's by a dash, as the library's `length-append` does.
+JOINED = {"append", "length"}
 SHARED = re.compile(r"/(specs|proofs)/[A-Z]\w*\.antt$")
+# The answers to a function's goals.
+STEPS = re.compile(r"/proofs/(?![A-Z]\w*\.antt$).*/(Answers|Invariants)\.antt$")
 # What a rewriting skips: comments and strings, each kept as it is.
 COMMENT = re.compile(r"--[^\n]*|//[^\n]*|\"(?:\\.|[^\"\\])*\"")
 # A name of its own: in a path or behind a field's dot too, but no part of a longer one.
@@ -48,20 +51,21 @@ def snake(name):
 
 
 def spelled(name, defined):
+    """The name as it is to be: a dash stays between a definition and a function of lists, and any other is an underscore."""
     words = snake(name)
-    parts = words.split("-")
-    if len(parts) == 2 and all(part in defined for part in parts):
+    of, _, function = words.partition("-")
+    if function in JOINED and of in defined:
         return words
     return words.replace("-", "_")
 
 
-# Names that would meet another of their crate.
-APART = {"noLoop": "not_loop", "byLoop": "by_that_loop", "fixedCount": "fixed_rule_count"}
+# Definitions that would meet another name of their crate; and two fields that meet none, though a definition elsewhere has their name.
+APART = {"noLoop": "not_loop", "byLoop": "by_that_loop", "fixedCount": "fixed_rule_count", "fixed-count": "fixed_count", "in-range": "in_range"}
 
 
 def table_of(top):
     """Each own name whose spelling changes, with its new one. A lemma that would get the name of a definition that it is about ends in '_lem'."""
-    declared, defined = set(), set(OF_LISTS)
+    declared, defined = set(), {"map"}
     for path in texts(top):
         if not path.endswith(".antt"):
             continue
@@ -73,8 +77,9 @@ def table_of(top):
             defined.update(snake(m) for m in DEFINED.findall(text) if m[0].islower())
     own = (n for n in declared if n[0].islower() or n[0] == "μ")
     table = {n: APART.get(n) or spelled(n, defined) for n in own if spelled(n, defined) != n}
-    taken = {new for old, new in table.items() if "-" not in old}
-    about = {old for old, new in table.items() if "-" in old and new in taken and not old.startswith("file-")}
+    # Laws of a file's bytes (`file-A`) and the file itself (`fileA`) are in files that do not meet.
+    taken = {spelled(n, defined) for n in declared if "-" not in n}
+    about = {old for old, new in table.items() if "-" in old and new in taken and old not in APART and not old.startswith("file-")}
     return {old: new + "_lem" * (old in about) for old, new in table.items()}
 
 
@@ -95,9 +100,12 @@ def clashes(top, table):
     return found
 
 
-def respelled(text, table):
+def respelled(text, table, shared):
+    """The text with its names turned. In a function's own proof what stands behind a dot is a step of the code, and stays."""
+    name = TOKEN if shared else re.compile(rf"(?<![^\s(){{}};,@\"«»`\[\]|]){NAME}")
+
     def names(part):
-        return TOKEN.sub(lambda m: table.get(m[0], m[0]), part)
+        return name.sub(lambda m: table.get(m[0], m[0]), part)
 
     done, at = [], 0
     for m in COMMENT.finditer(text):
@@ -109,6 +117,9 @@ def respelled(text, table):
 
 
 def main(words):
+    if any(w.startswith("-") and w != "--names" for w in words):
+        print(__doc__)
+        return 2
     tops = [w for w in words if not w.startswith("--")] or ["."]
     for top in tops:
         table = table_of(top)
@@ -121,7 +132,7 @@ def main(words):
             return 1
         for path in texts(top):
             text = read(path)
-            new = respelled(text, table)
+            new = respelled(text, table, not STEPS.search(path))
             if new != text:
                 with open(path, "w", encoding="utf-8") as f:
                     f.write(new)

@@ -45,7 +45,7 @@ def started(words):
 
 
 def cut(data):
-    """A file that is too long for any network is refused by its first bytes, and so alike is this much of it: the theorem `cut-refused`."""
+    """A file that is too long for any network is refused by its first bytes, and so alike is this much of it: the theorem `cut_refused`."""
     return data[:LONGEST_FILE + 1]
 
 

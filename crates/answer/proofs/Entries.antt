@@ -38,8 +38,8 @@ module _ (kinds numbers ring : List ℕ) where
 
   module _ (at entries : ℕ) (before : List ℕ) where
     -- before the first turn, at no entry
-    pub entered-none : Entered at entries before before 0
-    entered-none = record { within = omega arith; is = refl }
+    pub entered_none : Entered at entries before before 0
+    entered_none = record { within = omega arith; is = refl }
 
     -- what was written leaves the output as long as it was
     pub entered_long : (out : List ℕ) (j : ℕ) → Entered at entries before out j → length out ≡ length before

@@ -18,7 +18,7 @@ use Rattle.answer.specs.Records.{skew_bytes, entry_bytes}
 pub marks_long : (l : List ℕ) (i j a b : ℕ) → length (set (set l i a) j b) ≡ length l
 marks_long l i j a b = simp length-set
 
--- the marks `Lt` and a number are a latency's record
+-- the marks `LT` and a number are a latency's record
 pub latency_written : (l after : List ℕ) (at : ℕ) (x x' : ℤ)
     → after ≡ sets (set (set l at 76) (at + 1) 84) (at + 2) (four x') → x' ≡ x
     → after ≡ sets l at (latency_record x)

@@ -40,8 +40,8 @@ room_wide r = record { in_kinds = r.in_kinds; in_numbers = r.in_numbers; in_tail
 -- ---- the windows
 
 -- before the first turn: register 0 has no window
-pub windows-none : (N : Network) (L : Lists) (amounts : List ℤ) → Wide N L amounts → Windows N L amounts 1
-windows-none N L amounts wide =
+pub windows_none : (N : Network) (L : Lists) (amounts : List ℤ) → Wide N L amounts → Windows N L amounts 1
+windows_none N L amounts wide =
     record { wide = wide; some = omega arith; low = λ i a b. absurd (omega arith); high = λ i a b. absurd (omega arith) }
 
 module _ (N : Network) (L : Lists) (amounts : List ℤ) (i : ℕ) (l : i < N.registers) (w : Windows N L amounts i) where
@@ -83,18 +83,18 @@ module _ (N : Network) (L : Lists) (amounts : List ℤ) (i : ℕ) (l : i < N.reg
       at_high j a b (no e) = keep (High j) (a, omega arith) (w.high j a (omega arith))
 
 -- as the code has the two places, the two amounts and the lists afterwards
-pub windows-put : (N : Network) (n i : ℕ) {L M : Lists} {amounts : List ℤ} {low-amount high-amount : ℤ} {e g : ℕ}
+pub windows_put : (N : Network) (n i : ℕ) {L M : Lists} {amounts : List ℤ} {low-amount high-amount : ℤ} {e g : ℕ}
     → n ≡ N.registers → i < n → Windows N L amounts i → e ≡ low_place i → g ≡ high_place n i
     → M ≡ with_rule (with_rule L e 2 i 0 i) g 3 i i 0 → low-amount ≡ base N (Low i) → high-amount ≡ base N (High i)
     → Windows N M (set (set amounts e low-amount) g high-amount) (i + 1)
-windows-put N n i {L} {M} {amounts} en l w ee ge put la ha = rw (put, ge, ee, la, ha, en) (windows_more N L amounts i (omega arith) w)
+windows_put N n i {L} {M} {amounts} en l w ee ge put la ha = rw (put, ge, ee, la, ha, en) (windows_more N L amounts i (omega arith) w)
 
 -- ---- the paths
 
 -- before the first path: all windows stand
-pub paths-none : (N : Network) (L : Lists) (amounts bases : List ℤ) (n : ℕ) → n ≡ N.registers → Windows N L amounts n → N.paths ≤ length bases
+pub paths_none : (N : Network) (L : Lists) (amounts bases : List ℤ) (n : ℕ) → n ≡ N.registers → Windows N L amounts n → N.paths ≤ length bases
     → Paths N L amounts bases 0
-paths-none N L amounts bases n e w b =
+paths_none N L amounts bases n e w b =
     record { windows = rw e at w; in_bases = b; hold = λ p h. absurd (omega arith); setup = λ p h. absurd (omega arith); based = λ p h. absurd (omega arith) }
 
 module _ (N : Network) (L : Lists) (amounts bases : List ℤ) (p : ℕ) (l : p < N.paths) (w : Paths N L amounts bases p) where
@@ -126,20 +126,20 @@ module _ (N : Network) (L : Lists) (amounts bases : List ℤ) (p : ℕ) (l : p <
       high = λ i a b. path_keep (High i) (a, b) (w.windows.high i a b);
     };
     in_bases = rw length-set w.in_bases;
-    hold = λ q h. at-hold q h (ℕ_discrete q p);
-    setup = λ q h. at-setup q h (ℕ_discrete q p);
+    hold = λ q h. at_hold q h (ℕ_discrete q p);
+    setup = λ q h. at_setup q h (ℕ_discrete q p);
     based = λ q h. at_based q h (ℕ_discrete q p);
   }
     where
-      at-hold : (q : ℕ) → q < p + 1 → Dec (q ≡ p) → Whole N (with_rule_lem N H (Setup p)) held (Hold q)
-      at-hold q h (yes e) =
+      at_hold : (q : ℕ) → q < p + 1 → Dec (q ≡ p) → Whole N (with_rule_lem N H (Setup p)) held (Hold q)
+      at_hold q h (yes e) =
           let k = whole_new N L amounts w.windows.wide (Hold p) l in
           subst (λ k. Whole N (with_rule_lem N H (Setup p)) held (Hold k)) (sym e) (stands_kept N H held wide_held (Setup p) l (Hold p) l k.0, k.1)
-      at-hold q h (no e) = path_keep (Hold q) (omega arith) (w.hold q (omega arith))
+      at_hold q h (no e) = path_keep (Hold q) (omega arith) (w.hold q (omega arith))
 
-      at-setup : (q : ℕ) → q < p + 1 → Dec (q ≡ p) → Stands N (with_rule_lem N H (Setup p)) (Setup q)
-      at-setup q h (yes e) = subst (λ k. Stands N (with_rule_lem N H (Setup p)) (Setup k)) (sym e) (stands_new N H held wide_held (Setup p) l)
-      at-setup q h (no e) = setup_keep (Setup q) (omega arith) (w.setup q (omega arith))
+      at_setup : (q : ℕ) → q < p + 1 → Dec (q ≡ p) → Stands N (with_rule_lem N H (Setup p)) (Setup q)
+      at_setup q h (yes e) = subst (λ k. Stands N (with_rule_lem N H (Setup p)) (Setup k)) (sym e) (stands_new N H held wide_held (Setup p) l)
+      at_setup q h (no e) = setup_keep (Setup q) (omega arith) (w.setup q (omega arith))
 
       at_based : (q : ℕ) → q < p + 1 → Dec (q ≡ p) → get_or (set bases p (base N (Setup p))) q (pos 0) ≡ base N (Setup q)
       at_based q h (yes e) =
@@ -148,12 +148,12 @@ module _ (N : Network) (L : Lists) (amounts bases : List ℤ) (p : ℕ) (l : p <
       at_based q h (no e) = get_or-set_other bases p q (base N (Setup p)) (pos 0) e ∙ w.based q (omega arith)
 
 -- as the code has the two places, the ends, the two amounts and the lists afterwards
-pub paths-put : (N : Network) (n m p : ℕ) {L M : Lists} {amounts bases : List ℤ} {hold-amount setup-amount : ℤ} {e g from to : ℕ}
+pub paths_put : (N : Network) (n m p : ℕ) {L M : Lists} {amounts bases : List ℤ} {hold-amount setup-amount : ℤ} {e g from to : ℕ}
     → n ≡ N.registers → m ≡ N.paths → p < m → Paths N L amounts bases p → from ≡ N.from p → to ≡ N.to p
     → e ≡ hold_place n p → g ≡ setup_place n m p
     → M ≡ with_rule (with_rule L e 1 p to from) g 0 p from to → hold-amount ≡ base N (Hold p) → setup-amount ≡ base N (Setup p)
     → Paths N M (set amounts e hold-amount) (set bases p setup-amount) (p + 1)
-paths-put N n m p {L} {M} {amounts} {bases} en em l w f t ee ge put ha sa =
+paths_put N n m p {L} {M} {amounts} {bases} en em l w f t ee ge put ha sa =
     rw (put, ge, ee, ha, sa, f, t, en, em) (paths_more N L amounts bases p (omega arith) w)
 
 -- ---- all rules
@@ -169,11 +169,11 @@ enumerates_same G old name count same names = record {
   found = λ r h. let (e, b, is) = names.found r h in (e, b, same e b ∙ is);
 }
 
-kind-below : (r : Rule) → kind r < 4
-kind-below (Setup p) = omega arith
-kind-below (Hold p) = omega arith
-kind-below (Low i) = omega arith
-kind-below (High i) = omega arith
+kind_below : (r : Rule) → kind r < 4
+kind_below (Setup p) = omega arith
+kind_below (Hold p) = omega arith
+kind_below (Low i) = omega arith
+kind_below (High i) = omega arith
 
 module _ (N : Network) (L : Lists) (amounts bases : List ℤ) (k : ℕ) (all : N.paths ≤ k) (w : Paths N L amounts bases k) where
   stands : (r : Rule) → Exists N r → Stands N L r
@@ -215,7 +215,7 @@ module _ (N : Network) (L : Lists) (amounts bases : List ℤ) (k : ℕ) (all : N
         };
     enumerates = enumerates_same (graph_of N) (rule_at N) (rule_in L) (rule_count N) name_is (rules_enumerate N);
     fixed_enumerates = enumerates_same (fixed_graph (rules N)) (rule_at N) (rule_in L) (fixed_rule_count N) (λ e h. name_is e (omega arith)) (fixed_enumerates N);
-    kinds_are = λ e h. let k = ap (λ i. get_or L.kinds i 0) (sym (rule_place N e h)) ∙ (there e h).of_kind in rw k (kind-below (rule_at N e));
+    kinds_are = λ e h. let k = ap (λ i. get_or L.kinds i 0) (sym (rule_place N e h)) ∙ (there e h).of_kind in rw k (kind_below (rule_at N e));
     leaves = λ e h. ap (λ k. get_or L.tails k 0) (sym (rule_place N e h)) ∙ (there e h).leaves ∙ ap (tail N) (sym (name_is e h));
     reaches = λ e h. ap (λ k. get_or L.heads k 0) (sym (rule_place N e h)) ∙ (there e h).reaches ∙ ap (head N) (sym (name_is e h));
     fixed = λ e h. ap (λ k. get_or amounts k (pos 0)) (sym (rule_place N e (omega arith))) ∙ fixed_weighs e h ∙ ap (base N) (sym (name_is e (omega arith)));

@@ -119,16 +119,16 @@ module _ (N : Network) (L : Lists) (amounts bases : List ℤ) (f : Filled N L am
 
 -- ---- laid-out arrows are what a relaxation asks for
 
-below-high : (z : ℤ) → z ≤ℤ pos 16777216 → below (neg_ℤ z) ≤ 16777216
-below-high (pos n) h = omega (lin, negs (pos n))
-below-high (negsuc n) h = omega (lin, negs (negsuc n))
+below_high : (z : ℤ) → z ≤ℤ pos 16777216 → below (neg_ℤ z) ≤ 16777216
+below_high (pos n) h = omega (lin, negs (pos n))
+below_high (negsuc n) h = omega (lin, negs (negsuc n))
 
 module _ (N : Network) (legal : Legal N) (L : Lists) (amounts bases : List ℤ) (room : Room N L amounts bases) (n P : ℕ) (small : P ≤ 10000000) where
   -- a high rule keeps its register at or below 2 ^ 24
   highest : (v : ℕ) → 0 < v → v < N.registers → below (ruleAmount N P (High v)) ≤ 16777216
   highest v z b =
       let h = legal.high v b in
-      below-high (N.high v) (omega lin)
+      below_high (N.high v) (omega lin)
 
   modest : (r : Rule) → (graph_of N).Here r → Modest (ruleAmount N P r)
   modest r h = let b = amount_modest legal P r small h in record { from = b.from; to = b.to }

@@ -1,4 +1,4 @@
--- For callers: `at_least_lem` and `held_nameable` of `Attempts`.
+-- For callers: `at_least` and `held_nameable` of `Attempts`.
 pub mod Trials
 pub mod Attempts
 pub mod Begins

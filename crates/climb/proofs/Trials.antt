@@ -22,7 +22,7 @@ use Rattle.loops.specs.Layout.{rule_count}
 use Rattle.loops.specs.Model.{at}
 use Rattle.loops.proofs.Families.{refutes_none_to}
 use Rattle.loops.proofs.Climbs.{climbing_at, climbing_answers, trial_refutes, refutes_unfixed, raised_refutes}
-use Rattle.loops.proofs.Rules.{rules_lawful, fixed_setups, best_answer, shown_rules, refutes_rules, none-rules, some-rules}
+use Rattle.loops.proofs.Rules.{rules_lawful, fixed_setups, best_answer, shown_rules, refutes_rules, none_rules, some_rules}
 use Rattle.rounds.specs.Relaxation.{Rests, ShowsLoop}
 use Rattle.answer.specs.Records.{AnswerBytes}
 use Rattle.climb.specs.Known.{Tries}
@@ -80,7 +80,7 @@ module _ (N : Network) (kinds numbers : List ℕ) (some : (Q : ℕ) × Scheduled
         → LoopAlone (map (named kinds numbers) (take entries ring)) before after → Solved N before outcome.NoneToCeiling after
     trial_over Q up over before after bytes =
         let r = raised_refutes (rules N) (rules_lawful N) P Q N.ceiling (map (named kinds numbers) (take entries ring)) trial_loop up over in (
-          none-rules N (some-rules N some) (refutes_none_to (rules N) (rules_lawful N) N.ceiling (map (named kinds numbers) (take entries ring)) r),
+          none_rules N (some_rules N some) (refutes_none_to (rules N) (rules_lawful N) N.ceiling (map (named kinds numbers) (take entries ring)) r),
           record { loop = map (named kinds numbers) (take entries ring); refutes = (refutes_rules N N.ceiling (map (named kinds numbers) (take entries ring))).0 r; bytes = bytes },
         )
 

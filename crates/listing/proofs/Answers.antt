@@ -7,7 +7,7 @@ use lib.ListN.{length, drop, length-append}
 use Rattle.paper.specs.Network.{Network}
 use Rattle.paper.specs.Rules.{Rule}
 use Rattle.paper.specs.Output.{skew_record, latency_records, entry_records, LoopAlone, Answered}
-use Rattle.paper.proofs.OutputLaws.{skew_length, latencies-length, entries-length, period_back, latencies-back, entries-back}
+use Rattle.paper.proofs.OutputLaws.{skew_length, latencies-length, entries-length, period_back, latencies_back, entries_back}
 use Rattle.listing.specs.Listable.{FullAnswer, LoopAnswer}
 
 -- an answer of a small network
@@ -27,8 +27,8 @@ answered_listable N before after a h few entries =
       n = n;
       k = k;
       period_is = rw e (period_back a.period n k rest h);
-      latencies_are = rw e (latencies-back a.period n k rest (omega arith));
-      entries_are = rw e (entries-back a.period n k rest (omega arith));
+      latencies_are = rw e (latencies_back a.period n k rest (omega arith));
+      entries_are = rw e (entries_back a.period n k rest (omega arith));
       few_latencies = few;
       few_entries = entries;
       within =
@@ -55,7 +55,7 @@ loop_listable loop before after a few =
     let e : after ≡ skew ++ rest = a ∙ simp append_assoc in
     record {
       k = k;
-      entries_are = rw e (entries-back 0 0 k rest (omega arith));
+      entries_are = rw e (entries_back 0 0 k rest (omega arith));
       few_entries = few;
       within = rw e (omega (arith, skew_length 0 0 k, length-append skew rest, length-append shown behind, entries-length loop));
     }

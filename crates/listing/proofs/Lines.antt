@@ -46,8 +46,8 @@ pub latency_line_lem : (i : ℕ) {y z : ℤ} → y ≡ z → (latency_word ++ de
 latency_line_lem i e = rw e (simp append_assoc)
 
 -- a refusal's line by its parts
-pub refused-line : (n p : ℕ) → ((refused_word ++ decimal n) ++ ((32 ∷ []) ++ decimal p)) ++ newline ≡ refused_line n p
-refused-line n p = simp append_assoc
+pub refused_line_lem : (n p : ℕ) → ((refused_word ++ decimal n) ++ ((32 ∷ []) ++ decimal p)) ++ newline ≡ refused_line n p
+refused_line_lem n p = simp append_assoc
 
 -- ---- lines one after the other, each of at most 24 bytes
 
@@ -88,32 +88,32 @@ pub matched : {z : ℤ} {k : ℕ} → SFits w32 z → of_z w32 z ≡ k → z ≡
 matched f e = sym (to_z-of_z f) ∙ ap (to_z w32) e
 
 -- kind 0 is a setup rule
-pub setup-kind : {z : ℤ} → z ≡ pos 0 → kind_word z ≡ setup_word
+pub setup_kind : {z : ℤ} → z ≡ pos 0 → kind_word z ≡ setup_word
 unfolding kind_word
-setup-kind e = rw e
+setup_kind e = rw e
 
 -- kind 1 is a hold rule
-pub hold-kind : {z : ℤ} → z ≡ pos 1 → kind_word z ≡ hold_word
+pub hold_kind : {z : ℤ} → z ≡ pos 1 → kind_word z ≡ hold_word
 unfolding kind_word
-hold-kind e = rw e
+hold_kind e = rw e
 
 -- kind 2 is a low rule
-pub low-kind : {z : ℤ} → z ≡ pos 2 → kind_word z ≡ low_word
+pub low_kind : {z : ℤ} → z ≡ pos 2 → kind_word z ≡ low_word
 unfolding kind_word
-low-kind e = rw e
+low_kind e = rw e
 
 -- any other is taken for a high rule
-pub high-kind : (z : ℤ) → (of_z w32 z ≡ 0 → ⊥) → (of_z w32 z ≡ 1 → ⊥) → (of_z w32 z ≡ 2 → ⊥) → kind_word z ≡ high_word
+pub high_kind : (z : ℤ) → (of_z w32 z ≡ 0 → ⊥) → (of_z w32 z ≡ 1 → ⊥) → (of_z w32 z ≡ 2 → ⊥) → kind_word z ≡ high_word
 unfolding kind_word
-high-kind (pos k) a b c =
+high_kind (pos k) a b c =
     let bits : ℕ → ℕ = λ x. of_z w32 (pos x) in
     rw (ne_eqb k 0 (λ e. a (ap bits e)), ne_eqb k 1 (λ e. b (ap bits e)), ne_eqb k 2 (λ e. c (ap bits e)))
-high-kind (negsuc k) a b c = refl
+high_kind (negsuc k) a b c = refl
 
 -- a line of a short word and a number is the line of the kind that has the word
-pub kind-line : (word : List ℕ) (y z kind : ℤ) {l m : List ℕ} {at j : ℕ} → Ended l at (line word y) m j (at + length word + 12)
+pub kind_line : (word : List ℕ) (y z kind : ℤ) {l m : List ℕ} {at j : ℕ} → Ended l at (line word y) m j (at + length word + 12)
     → length word ≤ 12 → y ≡ z → kind_word kind ≡ word → Ended l at (line (kind_word kind) z) m j (at + 24)
-kind-line word y z kind w h e f =
+kind_line word y z kind w h e f =
     record {
       written = named w.written (ap (line word) e ∙ ap (λ v. line v z) (sym f));
       by = let g = w.by in omega arith;

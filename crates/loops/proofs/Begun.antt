@@ -50,9 +50,9 @@ module _ (Γ Δ : Arrows) (b : Extends Γ Δ) where
 
   module _ (x : List ℤ) (p : List ℕ) (s : Sound Γ) (t : Tight Δ x p) (root : Γ.count ≤ pred p 0) where
     -- every register but the host has its pred among the first arrows, and the host has none at all
-    first-pred : (v : ℕ) → v < Γ.registers → pred p v < Γ.count → pred p v < Δ.count
-    first-pred zero h q = absurd (omega arith)
-    first-pred (suc v) h q = t.forest.fed (suc v) (omega arith) (let n = b.registers in omega arith)
+    first_pred_lem : (v : ℕ) → v < Γ.registers → pred p v < Γ.count → pred p v < Δ.count
+    first_pred_lem zero h q = absurd (omega arith)
+    first_pred_lem (suc v) h q = t.forest.fed (suc v) (omega arith) (let n = b.registers in omega arith)
 
     deep_begun : (d v : ℕ) → v < Γ.registers → Deep Δ p d v → Deep Γ p d v
     deep_begun zero zero h q = root
@@ -70,9 +70,9 @@ module _ (Γ Δ : Arrows) (b : Extends Γ Δ) where
           forest = record {
             preds_length = t.forest.preds_length ∙ sym n;
             grounded = λ v h. let g = t.forest.grounded v (omega arith) in (g.0, deep_begun g.0 v h g.1);
-            into = λ v h q. let i = first-pred v h q in b.heads (pred p v) i ∙ t.forest.into v (omega arith) i;
+            into = λ v h q. let i = first_pred_lem v h q in b.heads (pred p v) i ∙ t.forest.into v (omega arith) i;
             fed = λ v z h. let few = b.fewer in let f = t.forest.fed v z (omega arith) in omega arith;
           };
           host = t.host;
-          exact = λ v h q. let i = first-pred v h q in rw (b.tails (pred p v) i, b.amounts (pred p v) i) (t.exact v (omega arith) i);
+          exact = λ v h q. let i = first_pred_lem v h q in rw (b.tails (pred p v) i, b.amounts (pred p v) i) (t.exact v (omega arith) i);
         }

@@ -12,7 +12,7 @@ use Rattle.loops.specs.Arrows.{Arrows, Sound, tail}
 use Rattle.loops.specs.Model.{pred, back, rooted, lowest}
 use Rattle.loops.specs.Forest.{Returns}
 use Rattle.loops.proofs.Pigeonhole.{pigeonhole}
-use Rattle.loops.proofs.Grounded.{back-first, back-add, back_below}
+use Rattle.loops.proofs.Grounded.{back_first, back_add, back_below}
 use Rattle.loops.proofs.Rooted.{unrooted_arrows}
 
 module _ (Γ : Arrows) (p : List ℕ) where
@@ -35,8 +35,8 @@ module _ (Γ : Arrows) (p : List ℕ) where
   unfolding back
   returns_next k s r = record {
     some = r.some;
-    again = sym (back-first Γ p k s) ∙ ap (λ u. tail Γ (pred p u)) r.again;
-    arrows = λ j q. subst (λ u. pred p u < Γ.count) (back-first Γ p j s) (arrows_next k s j r q);
+    again = sym (back_first Γ p k s) ∙ ap (λ u. tail Γ (pred p u)) r.again;
+    arrows = λ j q. subst (λ u. pred p u < Γ.count) (back_first Γ p j s) (arrows_next k s j r q);
   }
 
   returns_back : (j k s : ℕ) → Returns Γ p k s → Returns Γ p k (back Γ p j s)
@@ -68,10 +68,10 @@ module _ (Γ : Arrows) (p : List ℕ) where
 
   -- ---- the lowest register on the way back
 
-  lowest-cases : (P : ℕ → Type 0) (k v : ℕ) → (back Γ p (suc k) v < lowest Γ p k v → P (back Γ p (suc k) v))
+  lowest_cases : (P : ℕ → Type 0) (k v : ℕ) → (back Γ p (suc k) v < lowest Γ p k v → P (back Γ p (suc k) v))
       → (lowest Γ p k v ≤ back Γ p (suc k) v → P (lowest Γ p k v)) → P (lowest Γ p (suc k) v)
   unfolding lowest
-  lowest-cases P k v under over = go (ltb (back Γ p (suc k) v) (lowest Γ p k v)) refl
+  lowest_cases P k v under over = go (ltb (back Γ p (suc k) v) (lowest Γ p k v)) refl
     where
       go : (t : Bool) → ltb (back Γ p (suc k) v) (lowest Γ p k v) ≡ t → P (elim t as (λ x. ℕ) [ true ↦ back Γ p (suc k) v | false ↦ lowest Γ p k v ])
       go true e = under (ltb-true (back Γ p (suc k) v) (lowest Γ p k v) e)
@@ -81,7 +81,7 @@ module _ (Γ : Arrows) (p : List ℕ) where
   lowest_met : (k v : ℕ) → (j : ℕ) × (lowest Γ p k v ≡ back Γ p j v) × (j ≤ k)
   unfolding lowest back
   lowest_met zero v = (0, refl, omega arith)
-  lowest_met (suc k) v = lowest-cases (λ u. (j : ℕ) × (u ≡ back Γ p j v) × (j ≤ suc k)) k v
+  lowest_met (suc k) v = lowest_cases (λ u. (j : ℕ) × (u ≡ back Γ p j v) × (j ≤ suc k)) k v
       (λ h. (suc k, refl, omega arith)) (λ h. let (j, e, q) = lowest_met k v in (j, e, omega arith))
 
   -- .. and none of them lies below it
@@ -92,8 +92,8 @@ module _ (Γ : Arrows) (p : List ℕ) where
   lowest_least (suc k) v j q = go (ℕ_discrete j (suc k)) (lowest_least k v j)
     where
       go : Dec (j ≡ suc k) → (j ≤ k → lowest Γ p k v ≤ back Γ p j v) → lowest Γ p (suc k) v ≤ back Γ p j v
-      go (yes e) ih = rw e (lowest-cases (λ u. u ≤ back Γ p (suc k) v) k v (λ h. omega arith) (λ h. h))
-      go (no e) ih = let l = ih (omega arith) in lowest-cases (λ u. u ≤ back Γ p j v) k v (λ h. omega arith) (λ h. l)
+      go (yes e) ih = rw e (lowest_cases (λ u. u ≤ back Γ p (suc k) v) k v (λ h. omega arith) (λ h. h))
+      go (no e) ih = let l = ih (omega arith) in lowest_cases (λ u. u ≤ back Γ p j v) k v (λ h. omega arith) (λ h. l)
 
   -- ---- the circle on which a walk ends
 
@@ -110,7 +110,7 @@ module _ (Γ : Arrows) (p : List ℕ) where
       let inside : (j : ℕ) → j < suc Γ.registers → back Γ p j v < Γ.registers = λ j q. back_below Γ p so j v b (λ i r. arrows i (omega arith)) in
       let t = pigeonhole Γ.registers (λ j. back Γ p j v) inside in
       let k = t.second - t.first in
-      let along : (j : ℕ) → back Γ p (j + t.first) v ≡ back Γ p j (back Γ p t.first v) = λ j. back-add Γ p j t.first v in
+      let along : (j : ℕ) → back Γ p (j + t.first) v ≡ back Γ p j (back Γ p t.first v) = λ j. back_add Γ p j t.first v in
       let whole : k + t.first ≡ t.second = omega (arith, t.later) in
       let turn : Returns Γ p k (back Γ p t.first v) = record {
         some = omega (arith, t.later);
@@ -131,8 +131,8 @@ module _ (Γ : Arrows) (p : List ℕ) where
     pub least : (j : ℕ) → s ≤ back Γ p j s
 
   -- The lowest register of enough steps back from a register of a circle: whatever comes later came before.
-  pub lowest-low : (n k v : ℕ) → k ≤ n → Returns Γ p k v → Low k (lowest Γ p n v)
-  lowest-low n k v q r = go (lowest_met n v)
+  pub lowest_low : (n k v : ℕ) → k ≤ n → Returns Γ p k v → Low k (lowest Γ p n v)
+  lowest_low n k v q r = go (lowest_met n v)
     where
       go : (j : ℕ) × (lowest Γ p n v ≡ back Γ p j v) × (j ≤ n) → Low k (lowest Γ p n v)
       go (j, e, h) =
@@ -142,6 +142,6 @@ module _ (Γ : Arrows) (p : List ℕ) where
                 λ i.
                 let w = returns_met k v r (i + j) in
                 let l = lowest_least n v w.place (omega (arith, w.before)) in
-                let same : back Γ p i (lowest Γ p n v) ≡ back Γ p w.place v = ap (back Γ p i) e ∙ sym (back-add Γ p i j v) ∙ w.same in
+                let same : back Γ p i (lowest Γ p n v) ≡ back Γ p w.place v = ap (back Γ p i) e ∙ sym (back_add Γ p i j v) ∙ w.same in
                 omega arith;
           }

@@ -11,17 +11,17 @@ use Rattle.whole.proofs.Lin.{lin, negs}
 use Rattle.loops.specs.Arrows.{Arrows, Sound, Highs, amount}
 use Rattle.loops.specs.Model.{at, round, all_rooted, settled, row_after, preds_after}
 use Rattle.loops.specs.Forest.{Tight, gap}
-use Rattle.loops.proofs.Kept.{round-asks, round_loud}
-use Rattle.loops.proofs.Settle.{host_still, settled-above, rows_from}
-use Rattle.loops.proofs.Gap.{gap-lt}
+use Rattle.loops.proofs.Kept.{round_asks, round_loud}
+use Rattle.loops.proofs.Settle.{host_still, settled_above, rows_from}
+use Rattle.loops.proofs.Gap.{gap_lt}
 
 module _ (Γ : Arrows) (H : ℕ) (s : Sound Γ) (w : Highs Γ H) where
   -- The high arrow of v asks of the host a v less at most H, and the host left the round at 0.
-  pub entered-high : (a : List ℤ) (p : List ℕ) → Tight Γ a p → all_rooted Γ (preds_after Γ a p) ≡ true → (v : ℕ) → v < Γ.registers → at a v ≤ℤ pos H
-  entered-high a p t r zero b = let e = t.host in omega lin
-  entered-high a p t r (suc v) b =
+  pub entered_high : (a : List ℤ) (p : List ℕ) → Tight Γ a p → all_rooted Γ (preds_after Γ a p) ≡ true → (v : ℕ) → v < Γ.registers → at a v ≤ℤ pos H
+  entered_high a p t r zero b = let e = t.host in omega lin
+  entered_high a p t r (suc v) b =
       let o = w (suc v) (omega arith) b in
-      let met : (at a (suc v) +ℤ amount Γ o.place) ≤ℤ at (row_after Γ a p) 0 = rw (o.leaves, o.reaches) at (round-asks Γ a p s t o.place o.exists) in
+      let met : (at a (suc v) +ℤ amount Γ o.place) ≤ℤ at (row_after Γ a p) 0 = rw (o.leaves, o.reaches) at (round_asks Γ a p s t o.place o.exists) in
       let still = host_still Γ a p s t r in
       let most = o.most in
       omega (lin, negs (pos H))
@@ -32,6 +32,6 @@ module _ (Γ : Arrows) (H : ℕ) (s : Sound Γ) (w : Highs Γ H) where
   gap_falls a p t q r =
       let up = round_loud Γ a p s t q in
       let left = up.higher in
-      let on = settled-above Γ a p s t r up.register up.below in
-      let high = entered-high a p t r up.register up.below in
-      gap-lt H a (settled Γ (preds_after Γ a p)) Γ.registers (rows_from Γ a p s t r) up.register up.below (omega lin) high
+      let on = settled_above Γ a p s t r up.register up.below in
+      let high = entered_high a p t r up.register up.below in
+      gap_lt H a (settled Γ (preds_after Γ a p)) Γ.registers (rows_from Γ a p s t r) up.register up.below (omega lin) high

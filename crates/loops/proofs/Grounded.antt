@@ -60,16 +60,16 @@ module _ (Γ : Arrows) (p : List ℕ) where
   back_below s (suc k) v b arrows = s.leaves (pred p (back Γ p k v)) (arrows k (omega arith))
 
   -- the first step back, and k more
-  pub back-first : (k v : ℕ) → back Γ p (suc k) v ≡ back Γ p k (tail Γ (pred p v))
+  pub back_first : (k v : ℕ) → back Γ p (suc k) v ≡ back Γ p k (tail Γ (pred p v))
   unfolding back
-  back-first zero v = refl
-  back-first (suc k) v = ap (λ u. tail Γ (pred p u)) (back-first k v)
+  back_first zero v = refl
+  back_first (suc k) v = ap (λ u. tail Γ (pred p u)) (back_first k v)
 
   -- i steps back, and k more
-  pub back-add : (k i v : ℕ) → back Γ p (k + i) v ≡ back Γ p k (back Γ p i v)
+  pub back_add : (k i v : ℕ) → back Γ p (k + i) v ≡ back Γ p k (back Γ p i v)
   unfolding back
-  back-add zero i v = ap (λ j. back Γ p j v) (zero-add i)
-  back-add (suc k) i v = ap (λ j. back Γ p j v) (suc-add k i) ∙ ap (λ u. tail Γ (pred p u)) (back-add k i v)
+  back_add zero i v = ap (λ j. back Γ p j v) (zero-add i)
+  back_add (suc k) i v = ap (λ j. back Γ p j v) (suc-add k i) ∙ ap (λ u. tail Γ (pred p u)) (back_add k i v)
 
   -- The d + 1 registers on the way from depth d to a root lie at different depths, so they are different.
   pub deep_short : Sound Γ → (d v : ℕ) → v < Γ.registers → Deep Γ p d v → d < Γ.registers

@@ -29,8 +29,8 @@ module _ (Γ : Arrows) (a : List ℤ) (p : List ℕ) (s : Sound Γ) (t : Tight �
   round_grows = books_grow Γ a p Γ.count (round Γ a p) tight_books
 
   -- every arrow is met, by the row that entered at its tail and the row that left at its head
-  pub round-asks : (e : ℕ) → e < Γ.count → offered Γ a e ≤ℤ at (row_after Γ a p) (head Γ e)
-  round-asks = tight_books.asked
+  pub round_asks : (e : ℕ) → e < Γ.count → offered Γ a e ≤ℤ at (row_after Γ a p) (head Γ e)
+  round_asks = tight_books.asked
 
   -- Kept: the row that entered was tight. Raised: to exactly that.
   pub round_exact : (v : ℕ) → v < Γ.registers → pred (preds_after Γ a p) v < Γ.count → at (row_after Γ a p) v ≡ offered Γ a (pred (preds_after Γ a p) v)
@@ -85,6 +85,6 @@ module _ (Γ : Arrows) (a : List ℤ) (p : List ℕ) (s : Sound Γ) (t : Tight �
   rested_least q =
       let same = (round_quiet q).row_same in
       record {
-        schedule = record { host = t.host; meets = λ e h. subst (λ r. offered Γ a e ≤ℤ at r (head Γ e)) same (round-asks e h) };
+        schedule = record { host = t.host; meets = λ e h. subst (λ r. offered Γ a e ≤ℤ at r (head Γ e)) same (round_asks e h) };
         least = tight_below Γ a p s t;
       }

@@ -67,19 +67,19 @@ module _ {E : Type 0} (G : Graph E) (f : Framed G) (name : ℕ → E) (count : �
   y = arrows_of_lays G name count w
 
   -- a place of the low arrow of v, where v has one
-  low-at : (v : ℕ) → Dec (0 < v) → Dec (v < G.registers) → ℕ
-  low-at v (yes z) (yes b) = (names.found (f.low v) (f.low_here v z b)).0
-  low-at v (yes z) (no b) = 0
-  low-at v (no z) b = 0
+  low_at : (v : ℕ) → Dec (0 < v) → Dec (v < G.registers) → ℕ
+  low_at v (yes z) (yes b) = (names.found (f.low v) (f.low_here v z b)).0
+  low_at v (yes z) (no b) = 0
+  low_at v (no z) b = 0
 
   low : ℕ → ℕ
-  low v = low-at v (dec_lt 0 v) (dec_lt v G.registers)
+  low v = low_at v (dec_lt 0 v) (dec_lt v G.registers)
 
   low_there : (v : ℕ) → 0 < v → v < G.registers → (low v < count) × (name (low v) ≡ f.low v)
-  unfolding low low-at
+  unfolding low low_at
   low_there v z b = go (dec_lt 0 v) (dec_lt v G.registers)
     where
-      go : (p : Dec (0 < v)) (q : Dec (v < G.registers)) → (low-at v p q < count) × (name (low-at v p q) ≡ f.low v)
+      go : (p : Dec (0 < v)) (q : Dec (v < G.registers)) → (low_at v p q < count) × (name (low_at v p q) ≡ f.low v)
       go (yes z') (yes b') = let r = names.found (f.low v) (f.low_here v z' b') in (r.1, r.2)
       go (yes z') (no n) = absurd (n b)
       go (no n) q = absurd (n z)

@@ -90,23 +90,23 @@ module _ (N : Network) where
   -- ---- the rules' arrows are framed
 
   -- the arrow of a rule that exists joins two registers
-  pub tail-below : Joined N → (r : Rule) → Exists N r → tail N r < N.registers
-  tail-below j (Setup p) h = j.from p h
-  tail-below j (Hold p) h = j.to p h
-  tail-below j (Low i) h = j.some
-  tail-below j (High i) h = h.1
+  pub tail_below : Joined N → (r : Rule) → Exists N r → tail N r < N.registers
+  tail_below j (Setup p) h = j.from p h
+  tail_below j (Hold p) h = j.to p h
+  tail_below j (Low i) h = j.some
+  tail_below j (High i) h = h.1
 
-  pub head-below : Joined N → (r : Rule) → Exists N r → head N r < N.registers
-  head-below j (Setup p) h = j.to p h
-  head-below j (Hold p) h = j.from p h
-  head-below j (Low i) h = h.1
-  head-below j (High i) h = j.some
+  pub head_below : Joined N → (r : Rule) → Exists N r → head N r < N.registers
+  head_below j (Setup p) h = j.to p h
+  head_below j (Hold p) h = j.from p h
+  head_below j (Low i) h = h.1
+  head_below j (High i) h = j.some
 
   abbrev pub rules_framed : Joined N → Framed (graph_of N)
   rules_framed j = record {
     some = j.some;
-    leaves_below = tail-below j;
-    reaches_below = head-below j;
+    leaves_below = tail_below j;
+    reaches_below = head_below j;
     low = Low;
     low_here = λ v z b. (z, b);
     low_leaves = λ v z b. refl;
@@ -120,8 +120,8 @@ module _ (N : Network) where
   abbrev pub fixed_framed : Joined N → Framed (fixed_graph (rules N))
   fixed_framed j = record {
     some = j.some;
-    leaves_below = λ r h. tail-below j r h.0;
-    reaches_below = λ r h. head-below j r h.0;
+    leaves_below = λ r h. tail_below j r h.0;
+    reaches_below = λ r h. head_below j r h.0;
     low = Low;
     low_here = λ v z b. ((z, b), tt);
     low_leaves = λ v z b. refl;

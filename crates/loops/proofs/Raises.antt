@@ -15,9 +15,9 @@ use Rattle.paper.specs.Rules.{Rule, amount}
 use Rattle.paper.specs.Schedule.{setups, need}
 use Rattle.paper.proofs.LoopLaws.{need_from, contradicts_below_need}
 
-above-natural : (P : ℕ) (z : ℤ) → pos P <ℤ z → z ≡ pos (natural z)
-above-natural P (pos n) h = refl
-above-natural P (negsuc n) h = absurd (omega lin)
+above_natural : (P : ℕ) (z : ℤ) → pos P <ℤ z → z ≡ pos (natural z)
+above_natural P (pos n) h = refl
+above_natural P (negsuc n) h = absurd (omega lin)
 
 module _ (N : Network) (P : ℕ) (l : List Rule) (some : 0 < setups l) (over : pos 0 <ℤ total (amount N P) l) where
   -- what is reached is the loop's need
@@ -29,7 +29,7 @@ module _ (N : Network) (P : ℕ) (l : List Rule) (some : 0 < setups l) (over : p
   raised_natural z e =
       let same = raised_need z e in
       let below = (contradicts_below_need N P l some).0 over in
-      above-natural P z (omega lin)
+      above_natural P z (omega lin)
 
   -- and at the period before it the loop still contradicts itself, since that one lies below the need
   pub raises : (Q : ℕ) → pos Q ≡ pos P +ℤ round_up (total (amount N P) l) (setups l) → (P < Q) × (pos 0 <ℤ total (amount N (Q - 1)) l)

@@ -14,7 +14,7 @@ use Rattle.loops.specs.Model.{at, round, row_after, preds_after, rooted, all_roo
 use Rattle.loops.specs.Model.{first_row, first_preds, Ending, Rested, Circled, Unended, relax}
 use Rattle.loops.specs.Forest.{Tight, gap}
 use Rattle.loops.proofs.Webs.{schedule_no_loop}
-use Rattle.loops.proofs.Rooted.{stray-some}
+use Rattle.loops.proofs.Rooted.{stray_some}
 use Rattle.loops.proofs.Search.{circle_found}
 use Rattle.loops.proofs.First.{first_tight}
 use Rattle.loops.proofs.Kept.{tight_books, round_quiet, rested_least}
@@ -24,13 +24,13 @@ use Rattle.loops.proofs.Settle.{settled_tight}
 use Rattle.loops.proofs.Ends.{gap_falls}
 
 -- what one more round may come to
-relax-cases : (P : Ending → Type 0) (Γ : Arrows) (fuel : ℕ) (a : List ℤ) (p : List ℕ)
+relax_cases : (P : Ending → Type 0) (Γ : Arrows) (fuel : ℕ) (a : List ℤ) (p : List ℕ)
     → ((round Γ a p).raised ≡ false → P (Rested (row_after Γ a p)))
     → ((round Γ a p).raised ≡ true → all_rooted Γ (preds_after Γ a p) ≡ true → P (relax Γ fuel (settled Γ (preds_after Γ a p)) (preds_after Γ a p)))
     → ((round Γ a p).raised ≡ true → all_rooted Γ (preds_after Γ a p) ≡ false → P (Circled (circle_arrows Γ (preds_after Γ a p) (stray Γ (preds_after Γ a p)))))
     → P (relax Γ (suc fuel) a p)
 unfolding relax
-relax-cases P Γ fuel a p rested on circled = go (round Γ a p).raised refl
+relax_cases P Γ fuel a p rested on circled = go (round Γ a p).raised refl
   where
     more : Bool → Ending
     more g = elim g as (λ x. Ending) [ true ↦ relax Γ fuel (settled Γ (preds_after Γ a p)) (preds_after Γ a p) | false ↦ Circled (circle_arrows Γ (preds_after Γ a p) (stray Γ (preds_after Γ a p))) ]
@@ -70,9 +70,9 @@ module _ (Γ : Arrows) (H : ℕ) (s : Sound Γ) (w : Highs Γ H) where
   -- tight again.
   pub relax_ends : (fuel : ℕ) (a : List ℤ) (p : List ℕ) → Tight Γ a p → gap Γ H a < fuel → Ended Γ (relax Γ fuel a p)
   relax_ends zero a p t g = absurd (omega arith)
-  relax_ends (suc fuel) a p t g = relax-cases (Ended Γ) Γ fuel a p (rested_ends Γ a p s t)
+  relax_ends (suc fuel) a p t g = relax_cases (Ended Γ) Γ fuel a p (rested_ends Γ a p s t)
       (λ q r. let less = gap_falls Γ H s w a p t q r in relax_ends fuel (settled Γ (preds_after Γ a p)) (preds_after Γ a p) (settled_tight Γ a p s t r) (omega arith))
-      (λ q r. let u = stray-some Γ (preds_after Γ a p) Γ.registers r in circled_ends Γ a p s t (stray Γ (preds_after Γ a p)) u.0 u.1)
+      (λ q r. let u = stray_some Γ (preds_after Γ a p) Γ.registers r in circled_ends Γ a p s t (stray Γ (preds_after Γ a p)) u.0 u.1)
 
 ended_or : (Γ : Arrows) (r : Ending) → Ended Γ r → Either Γ
 ended_or Γ (Rested row) h = inl (row, h.1)

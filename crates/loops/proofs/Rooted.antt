@@ -10,7 +10,7 @@ use borrow.Author.Tests.{ltb-true, ltb-false, lt-ltb, le-ltb}
 use Rattle.loops.specs.Arrows.{Arrows, Sound, tail}
 use Rattle.loops.specs.Model.{pred, back, rooted, rooted_below, all_rooted, stray_below, stray}
 use Rattle.loops.specs.Forest.{Deep, Grounded, Arrowed}
-use Rattle.loops.proofs.Grounded.{deep_walk, deep_short, back-first}
+use Rattle.loops.proofs.Grounded.{deep_walk, deep_short, back_first}
 
 module _ (Γ : Arrows) (p : List ℕ) where
   -- ---- one register
@@ -61,7 +61,7 @@ module _ (Γ : Arrows) (p : List ℕ) where
   unrooted_arrows d v n zero q = unrooted_here d v n
   unrooted_arrows zero v n (suc j) q = absurd (omega arith)
   unrooted_arrows (suc d) v n (suc j) q =
-      rw (back-first Γ p j v) (unrooted_arrows d (tail Γ (pred p v)) (sym (rooted_next d v (unrooted_here (suc d) v n)) ∙ n) j (omega arith))
+      rw (back_first Γ p j v) (unrooted_arrows d (tail Γ (pred p v)) (sym (rooted_next d v (unrooted_here (suc d) v n)) ∙ n) j (omega arith))
 
   -- ---- all registers rooted, or one that is not
 
@@ -77,11 +77,11 @@ module _ (Γ : Arrows) (p : List ℕ) where
       go true e r ih (no s) = ih e (omega arith)
       go false e r ih d = absurd (false≢true r)
 
-  stray-cases : (P : ℕ → Type 0) (v : ℕ) → (rooted_below Γ p v ≡ false → P (stray_below Γ p v))
+  stray_cases : (P : ℕ → Type 0) (v : ℕ) → (rooted_below Γ p v ≡ false → P (stray_below Γ p v))
       → (rooted_below Γ p v ≡ true → rooted Γ p Γ.registers v ≡ false → P v)
       → (rooted_below Γ p v ≡ true → rooted Γ p Γ.registers v ≡ true → P (suc v)) → P (stray_below Γ p (suc v))
   unfolding stray_below
-  stray-cases P v before here none = go (rooted_below Γ p v) refl
+  stray_cases P v before here none = go (rooted_below Γ p v) refl
     where
       last : Bool → ℕ
       last t = elim t as (λ x. ℕ) [ true ↦ suc v | false ↦ v ]
@@ -99,18 +99,18 @@ module _ (Γ : Arrows) (p : List ℕ) where
   below_next_rooted v e = rw (e, rooted_below)
 
   -- where the test fails, the stray register is one that is not rooted
-  pub stray-some : (n : ℕ) → rooted_below Γ p n ≡ false → (stray_below Γ p n < n) × (rooted Γ p Γ.registers (stray_below Γ p n) ≡ false)
+  pub stray_some : (n : ℕ) → rooted_below Γ p n ≡ false → (stray_below Γ p n < n) × (rooted Γ p Γ.registers (stray_below Γ p n) ≡ false)
   unfolding rooted_below
-  stray-some zero h = absurd (true≢false h)
-  stray-some (suc n) h = stray-cases (λ u. (u < suc n) × (rooted Γ p Γ.registers u ≡ false)) n
-      (λ e. let s = stray-some n e in (omega (arith, s.0), s.1)) (λ e q. (omega arith, q))
+  stray_some zero h = absurd (true≢false h)
+  stray_some (suc n) h = stray_cases (λ u. (u < suc n) × (rooted Γ p Γ.registers u ≡ false)) n
+      (λ e. let s = stray_some n e in (omega (arith, s.0), s.1)) (λ e q. (omega arith, q))
       (λ e q. absurd (true≢false (sym (below_next_rooted n e ∙ q) ∙ h)))
 
   -- where it passes, there is none
-  pub stray-none : (n : ℕ) → rooted_below Γ p n ≡ true → stray_below Γ p n ≡ n
+  pub stray_none : (n : ℕ) → rooted_below Γ p n ≡ true → stray_below Γ p n ≡ n
   unfolding stray_below rooted_below
-  stray-none zero h = refl
-  stray-none (suc n) h = stray-cases (λ u. u ≡ suc n) n
+  stray_none zero h = refl
+  stray_none (suc n) h = stray_cases (λ u. u ≡ suc n) n
       (λ e. absurd (false≢true (sym (failed e) ∙ h))) (λ e q. absurd (false≢true (sym (below_next_rooted n e ∙ q) ∙ h))) (λ e q. refl)
     where
       failed : rooted_below Γ p n ≡ false → rooted_below Γ p (suc n) ≡ false
@@ -122,36 +122,36 @@ module _ (Γ : Arrows) (p : List ℕ) where
   stray_is (suc n) s q r h = go (ℕ_discrete s n) (λ q. stray_is n s q r h)
     where
       go : Dec (s ≡ n) → (s < n → stray_below Γ p n ≡ s) → stray_below Γ p (suc n) ≡ s
-      go (yes e) ih = stray-cases (λ u. u ≡ s) n
+      go (yes e) ih = stray_cases (λ u. u ≡ s) n
           (λ f. absurd (true≢false (sym r ∙ ap (rooted_below Γ p) e ∙ f))) (λ f g. sym e)
           (λ f g. absurd (true≢false (sym g ∙ ap (rooted Γ p Γ.registers) (sym e) ∙ h)))
-      go (no e) ih = stray-cases (λ u. u ≡ s) n
+      go (no e) ih = stray_cases (λ u. u ≡ s) n
           (λ f. ih (omega arith)) (λ f g. absurd (true≢false (sym (all_rooted_lem n f s (omega arith)) ∙ h)))
           (λ f g. absurd (true≢false (sym (all_rooted_lem n f s (omega arith)) ∙ h)))
 
   -- read the other way: a stray number that names no register tells that all are rooted, and one that does is not rooted
-  pub stray-above : (s : ℕ) → s ≡ stray Γ p → Γ.registers ≤ s → (s ≡ Γ.registers) × (all_rooted Γ p ≡ true)
-  stray-above s e q = go (all_rooted Γ p) refl
+  pub stray_above : (s : ℕ) → s ≡ stray Γ p → Γ.registers ≤ s → (s ≡ Γ.registers) × (all_rooted Γ p ≡ true)
+  stray_above s e q = go (all_rooted Γ p) refl
     where
       go : (t : Bool) → all_rooted Γ p ≡ t → (s ≡ Γ.registers) × (all_rooted Γ p ≡ true)
-      go true h = (e ∙ stray-none Γ.registers h, h)
-      go false h = absurd (let b = (stray-some Γ.registers h).0 in omega arith)
+      go true h = (e ∙ stray_none Γ.registers h, h)
+      go false h = absurd (let b = (stray_some Γ.registers h).0 in omega arith)
 
-  pub stray-below : (s : ℕ) → s ≡ stray Γ p → s < Γ.registers → rooted Γ p Γ.registers s ≡ false
-  stray-below s e q = go (all_rooted Γ p) refl
+  pub stray_below_lem : (s : ℕ) → s ≡ stray Γ p → s < Γ.registers → rooted Γ p Γ.registers s ≡ false
+  stray_below_lem s e q = go (all_rooted Γ p) refl
     where
       go : (t : Bool) → all_rooted Γ p ≡ t → rooted Γ p Γ.registers s ≡ false
-      go true h = absurd (let b = stray-none Γ.registers h in omega arith)
-      go false h = rw e (stray-some Γ.registers h).1
+      go true h = absurd (let b = stray_none Γ.registers h in omega arith)
+      go false h = rw e (stray_some Γ.registers h).1
 
   -- where the test passes, every register is grounded
   pub all_grounded : all_rooted Γ p ≡ true → (v : ℕ) → v < Γ.registers → Grounded Γ p v
   all_grounded h v q = let w = rooted_deep Γ.registers v (all_rooted_lem Γ.registers h v q) in (w.depth, w.deep)
 
-  rooted-below : (n : ℕ) → ((v : ℕ) → v < n → rooted Γ p Γ.registers v ≡ true) → rooted_below Γ p n ≡ true
+  rooted_below_lem : (n : ℕ) → ((v : ℕ) → v < n → rooted Γ p Γ.registers v ≡ true) → rooted_below Γ p n ≡ true
   unfolding rooted_below
-  rooted-below zero h = refl
-  rooted-below (suc n) h = rw (rooted-below n (λ v q. h v (omega arith)), rooted_below) (h n (omega arith))
+  rooted_below_lem zero h = refl
+  rooted_below_lem (suc n) h = rw (rooted_below_lem n (λ v q. h v (omega arith)), rooted_below) (h n (omega arith))
 
   -- a grounded register is rooted, since its depth stays below the number of registers
   grounded_rooted : Sound Γ → (v : ℕ) → v < Γ.registers → Grounded Γ p v → rooted Γ p Γ.registers v ≡ true
@@ -159,7 +159,7 @@ module _ (Γ : Arrows) (p : List ℕ) where
 
   -- the test passes where every register is grounded
   pub grounded_all : Sound Γ → ((v : ℕ) → v < Γ.registers → Grounded Γ p v) → all_rooted Γ p ≡ true
-  grounded_all s h = rooted-below Γ.registers (λ v b. grounded_rooted s v b (h v b))
+  grounded_all s h = rooted_below_lem Γ.registers (λ v b. grounded_rooted s v b (h v b))
 
   ungrounded : (v : ℕ) → ¬ Grounded Γ p v → rooted Γ p Γ.registers v ≡ false
   ungrounded v n = go (rooted Γ p Γ.registers v) refl
@@ -169,9 +169,9 @@ module _ (Γ : Arrows) (p : List ℕ) where
       go false e = e
 
   -- the first register that is not grounded is the stray one
-  pub stray-first : Sound Γ → (s : ℕ) → s < Γ.registers → ((v : ℕ) → v < s → Grounded Γ p v) → ¬ Grounded Γ p s → stray Γ p ≡ s
-  stray-first so s b before n =
-      stray_is Γ.registers s b (rooted-below s (λ v q. grounded_rooted so v (omega arith) (before v q))) (ungrounded s n)
+  pub stray_first : Sound Γ → (s : ℕ) → s < Γ.registers → ((v : ℕ) → v < s → Grounded Γ p v) → ¬ Grounded Γ p s → stray Γ p ≡ s
+  stray_first so s b before n =
+      stray_is Γ.registers s b (rooted_below_lem s (λ v q. grounded_rooted so v (omega arith) (before v q))) (ungrounded s n)
 
   -- Going back over arrows as often as there are registers, without an end, shows that a register is not grounded.
   pub long_not_grounded : Sound Γ → (v : ℕ) → v < Γ.registers → Arrowed Γ p Γ.registers v → ¬ Grounded Γ p v

@@ -127,11 +127,11 @@ module _ (N : Network) where
   )
 
   -- a period that has a schedule, counted from 1
-  pub some-rules : (P : ℕ) × webs.Scheduled (web_at (rules N) P) → (P : ℕ) × (1 ≤ P) × Scheduled N P
-  some-rules s = (suc s.0, omega arith, scheduled_stays s.0 (suc s.0) (omega arith) ((scheduled_rules s.0).0 s.1))
+  pub some_rules : (P : ℕ) × webs.Scheduled (web_at (rules N) P) → (P : ℕ) × (1 ≤ P) × Scheduled N P
+  some_rules s = (suc s.0, omega arith, scheduled_stays s.0 (suc s.0) (omega arith) ((scheduled_rules s.0).0 s.1))
 
-  pub none-rules : (P : ℕ) × (1 ≤ P) × Scheduled N P → NoneTo (rules N) N.ceiling → NoneToCeiling N
-  none-rules s none = record { some = s; none = λ P h b t. none P b ((scheduled_rules P).1 t) }
+  pub none_rules : (P : ℕ) × (1 ≤ P) × Scheduled N P → NoneTo (rules N) N.ceiling → NoneToCeiling N
+  none_rules s none = record { some = s; none = λ P h b t. none P b ((scheduled_rules P).1 t) }
 
 -- ---- every network whose paths join registers
 
@@ -166,5 +166,5 @@ module _ (N : Network) (j : Joined N) where
       go : Never (rules N) ⊎ (((Q : ℕ) × webs.Scheduled (web_at (rules N) Q)) × NoneTo (rules N) N.ceiling) ⊎ ((P : ℕ) × (x : ℕ → ℤ) × Best (rules N) N.floor N.ceiling P x)
           → NoPeriod N ⊎ NoneToCeiling N ⊎ ((P : ℕ) × (x : ℕ → ℤ) × Answer N P x)
       go (inl n) = inl ((never_rules N).0 n)
-      go (inr (inl n)) = inr (inl (none-rules N (some-rules N n.0) n.1))
+      go (inr (inl n)) = inr (inl (none_rules N (some_rules N n.0) n.1))
       go (inr (inr b)) = inr (inr (b.0, b.1, best_answer N b.0 b.1 b.2))

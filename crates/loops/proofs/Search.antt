@@ -14,16 +14,16 @@ use Rattle.loops.specs.Model.{pred, back, rooted, around, Ring, circle_start, ci
 use Rattle.loops.specs.Forest.{Returns, Circle, Arrowed}
 use Rattle.loops.proofs.Below.{below_next}
 use Rattle.loops.proofs.Grounded.{back_below}
-use Rattle.loops.proofs.Circles.{Low, lowest_least, lowest-low, unrooted_ends}
+use Rattle.loops.proofs.Circles.{Low, lowest_least, lowest_low, unrooted_ends}
 use Rattle.loops.proofs.Rooted.{unrooted_arrows}
 
 module _ (Γ : Arrows) (p : List ℕ) where
   -- what a step around may find
-  around-cases : (P : ℕ → Type 0) (s m k v : ℕ) → (Γ.count ≤ pred p v → P 0) → (pred p v < Γ.count → tail Γ (pred p v) ≡ s → P (suc k))
+  around_cases : (P : ℕ → Type 0) (s m k v : ℕ) → (Γ.count ≤ pred p v → P 0) → (pred p v < Γ.count → tail Γ (pred p v) ≡ s → P (suc k))
       → (pred p v < Γ.count → tail Γ (pred p v) ≢ s → P (around Γ p s m (suc k) (tail Γ (pred p v))))
       → P (around Γ p s (suc m) k v)
   unfolding around
-  around-cases P s m k v root again other = go (ltb (pred p v) Γ.count) refl
+  around_cases P s m k v root again other = go (ltb (pred p v) Γ.count) refl
     where
       u : ℕ
       u = tail Γ (pred p v)
@@ -44,7 +44,7 @@ module _ (Γ : Arrows) (p : List ℕ) where
       → around Γ p s m k (back Γ p k s) ≢ 0 → Circle Γ p (around Γ p s m k (back Γ p k s)) s
   unfolding back around
   around_circle zero k K s low arrows over n = absurd (n refl)
-  around_circle (suc m) k K s low arrows over n = around-cases (λ r. r ≢ 0 → Circle Γ p r s) s m k (back Γ p k s)
+  around_circle (suc m) k K s low arrows over n = around_cases (λ r. r ≢ 0 → Circle Γ p r s) s m k (back Γ p k s)
       (λ h z. absurd (z refl)) (λ h e z. stop h e) (λ h e. around_circle m (suc k) K s low (on h) (up e)) n
     where
       on : pred p (back Γ p k s) < Γ.count → Arrowed Γ p (suc k) s
@@ -63,7 +63,7 @@ module _ (Γ : Arrows) (p : List ℕ) where
   around_comes : (m k K s : ℕ) → Returns Γ p K s → k < K → K ≤ k + m → around Γ p s m k (back Γ p k s) ≢ 0
   unfolding back around
   around_comes zero k K s r q f = absurd (omega arith)
-  around_comes (suc m) k K s r q f = around-cases (λ n. n ≢ 0) s m k (back Γ p k s)
+  around_comes (suc m) k K s r q f = around_cases (λ n. n ≢ 0) s m k (back Γ p k s)
       (λ h. absurd (let a = r.arrows k q in omega arith)) (λ h e. omega arith)
       (λ h e. around_comes m (suc k) K s r (more e (ℕ_discrete (suc k) K)) (omega arith))
     where
@@ -88,7 +88,7 @@ module _ (Γ : Arrows) (p : List ℕ) where
   circle_found so s b h =
       let n = Γ.registers in
       let w = unrooted_ends Γ p so s b h in
-      let low = lowest-low Γ p n w.steps (back Γ p n s) w.short w.returns in
+      let low = lowest_low Γ p n w.steps (back Γ p n s) w.short w.returns in
       record { below = inside; circle = low_circle n w.steps (circle_start Γ p s) w.short low }
     where
       inside : circle_start Γ p s < Γ.registers

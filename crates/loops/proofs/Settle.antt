@@ -49,9 +49,9 @@ module _ (Γ : Arrows) (a : List ℤ) (p : List ℕ) (s : Sound Γ) (t : Tight �
       omega lin
 
   -- the settled row is nowhere below the row that the round left
-  pub settled-above : (v : ℕ) → v < Γ.registers → at (row_after Γ a p) v ≤ℤ at (settled Γ (preds_after Γ a p)) v
-  settled-above v b = let g = round_forest.grounded v b in deep_above g.0 v b g.1
+  pub settled_above : (v : ℕ) → v < Γ.registers → at (row_after Γ a p) v ≤ℤ at (settled Γ (preds_after Γ a p)) v
+  settled_above v b = let g = round_forest.grounded v b in deep_above g.0 v b g.1
 
   -- rows never fall: the settled row is nowhere below the row that entered the round
   pub rows_from : (v : ℕ) → v < Γ.registers → at a v ≤ℤ at (settled Γ (preds_after Γ a p)) v
-  rows_from v b = let g = round_grows Γ a p s t v b in let h = settled-above v b in omega lin
+  rows_from v b = let g = round_grows Γ a p s t v b in let h = settled_above v b in omega lin

@@ -11,7 +11,7 @@ use Rattle.loops.specs.Arrows.{Arrows, Sound, tail, head}
 use Rattle.loops.specs.Model.{pred, back, trail}
 use Rattle.loops.specs.Forest.{Circle}
 use Rattle.loops.proofs.Pigeonhole.{downs_apart, apart_short}
-use Rattle.loops.proofs.Grounded.{back-add, back_below}
+use Rattle.loops.proofs.Grounded.{back_add, back_below}
 
 -- on the k steps back from v each pred leads into its register
 abbrev pub Leads : Arrows → List ℕ → ℕ → ℕ → Type 0
@@ -41,7 +41,7 @@ module _ (Γ : Arrows) (p : List ℕ) where
   circle_apart : (k s : ℕ) → Circle Γ p k s → (i j : ℕ) → i < j → j ≤ k → 0 < (k - j) + i → back Γ p i s ≢ back Γ p j s
   circle_apart k s c i j q r z e =
       let whole : (k - j) + j ≡ k = omega arith in
-      let on : back Γ p ((k - j) + i) s ≡ back Γ p ((k - j) + j) s = back-add Γ p (k - j) i s ∙ ap (λ u. back Γ p (k - j) u) e ∙ sym (back-add Γ p (k - j) j s) in
+      let on : back Γ p ((k - j) + i) s ≡ back Γ p ((k - j) + j) s = back_add Γ p (k - j) i s ∙ ap (λ u. back Γ p (k - j) u) e ∙ sym (back_add Γ p (k - j) j s) in
       let early : back Γ p ((k - j) + i) s ≡ s = on ∙ ap (λ m. back Γ p m s) whole ∙ c.returns.again in
       omega (arith, c.lowest ((k - j) + i) z (omega arith))
 

@@ -32,9 +32,9 @@ other true c i = refl
 other false true i = refl
 other false false i = refl
 
-kind-setup : (k i : ℕ) → k ≡ 0 → setups (rule_of k i ∷ []) ≡ 1
+kind_setup : (k i : ℕ) → k ≡ 0 → setups (rule_of k i ∷ []) ≡ 1
 unfolding rule_of
-kind-setup k i h = rw (eq-eqb k 0 h) refl
+kind_setup k i h = rw (eq-eqb k 0 h) refl
 
 kind_other : (k i : ℕ) → k ≢ 0 → setups (rule_of k i ∷ []) ≡ 0
 unfolding rule_of
@@ -58,13 +58,13 @@ module _ (kinds ring : List ℕ) (entries : ℕ) where
         (omega (arith, setups-append (map (named kinds numbers) (take j ring)) (named kinds numbers (get_or ring j 0) ∷ []), s.is numbers))
 
     -- a place of kind 0 is one more
-    pub counted-setup : get_or kinds (get_or ring j 0) 0 ≡ 0 → Counted kinds ring entries (j + 1) (count + 1)
-    counted-setup k =
+    pub counted_setup : get_or kinds (get_or ring j 0) 0 ≡ 0 → Counted kinds ring entries (j + 1) (count + 1)
+    counted_setup k =
         let most = s.most in
         record {
           so_far = omega arith;
           most = omega arith;
-          is = λ numbers. omega (arith, more numbers, kind-setup (get_or kinds (get_or ring j 0) 0) (get_or numbers (get_or ring j 0) 0) k);
+          is = λ numbers. omega (arith, more numbers, kind_setup (get_or kinds (get_or ring j 0) 0) (get_or numbers (get_or ring j 0) 0) k);
         }
 
     -- any other is none
@@ -83,5 +83,5 @@ module _ (kinds ring : List ℕ) (entries : ℕ) where
     counted_next next more same = go (ℕ_discrete (get_or kinds (get_or ring j 0) 0) 0)
       where
         go : Dec (get_or kinds (get_or ring j 0) 0 ≡ 0) → Counted kinds ring entries (j + 1) next
-        go (yes e) = rw (more e) (counted-setup e)
+        go (yes e) = rw (more e) (counted_setup e)
         go (no e) = rw (same e) (counted_other e)

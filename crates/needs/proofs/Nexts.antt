@@ -22,8 +22,8 @@ module _ {amounts : List ℤ} {kinds : List ℕ} {period : ℤ} {ring : List ℕ
   amounts_at = record { enough = r.enough; few = r.few; within = all_map (λ e s. s.has_amount) (take entries ring) r.places }
 
   -- what `setups_of` asks for
-  pub kinds-at : Places (length kinds) ring entries
-  kinds-at = record { enough = r.enough; few = r.few; within = all_map (λ e s. s.has_kind) (take entries ring) r.places }
+  pub kinds_at : Places (length kinds) ring entries
+  kinds_at = record { enough = r.enough; few = r.few; within = all_map (λ e s. s.has_kind) (take entries ring) r.places }
 
   sum_most : sum_at amounts (take entries ring) ≤ℤ pos 1073741824
   sum_most =

@@ -23,9 +23,9 @@ natural_from (pos n) f h = record { not_negative = tt; fits = record { fits = om
 natural_from (negsuc n) f h = absurd h.le
 
 -- one below 0 counts nothing
-pub natural-below : (z : ℤ) → z <ℤ pos 0 → 0 ≡ natural z
-natural-below (pos n) h = absurd (omega lin)
-natural-below (negsuc n) h = refl
+pub natural_below : (z : ℤ) → z <ℤ pos 0 → 0 ≡ natural z
+natural_below (pos n) h = absurd (omega lin)
+natural_below (negsuc n) h = refl
 
 -- a count of registers as a signed number, and the number of the last one
 pub small_read : (n : ℕ) → n ≤ 256 → to_z w32 n ≡ pos n

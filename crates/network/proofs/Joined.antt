@@ -14,28 +14,28 @@ use Rattle.records.specs.declared.Record.{Record}
 use Rattle.records.specs.Records.{IsRecord}
 
 -- the tests of numbers 2, 3 and 4, from those of the header's fields
-pub counted-joined : (f : List ℕ) {n m r : Bool}
+pub counted_joined : (f : List ℕ) {n m r : Bool}
     → n ≡ within (pos 1) (pos 256) (number_at f 2)
     → m ≡ within (pos 0) (pos 2048) (number_at f 6)
     → r ≡ n && m
     → r ≡ counted f
 unfolding counted
-counted-joined f n m r = rw (n, m) at r
+counted_joined f n m r = rw (n, m) at r
 
 -- the test of the length, by the counts that were read
-pub sized-joined : (f : List ℕ) (n m : ℕ) → n ≡ registers f → m ≡ paths f → eqb (length f) (22 + 18 * (n + m)) ≡ sized f
+pub sized_joined : (f : List ℕ) (n m : ℕ) → n ≡ registers f → m ≡ paths f → eqb (length f) (22 + 18 * (n + m)) ≡ sized f
 unfolding sized
-sized-joined f n m e g = rw (e, g)
+sized_joined f n m e g = rw (e, g)
 
 -- the tests of floor, ceiling and u, joined, are the header's
-pub ranged-joined : (f : List ℕ) {floor ceiling u r : Bool}
+pub ranged_joined : (f : List ℕ) {floor ceiling u r : Bool}
     → floor ≡ within (pos 1) (pos 10000000) (number_at f 10)
     → ceiling ≡ within (number_at f 10) (pos 10000000) (number_at f 14)
     → u ≡ within (pos 0) (pos 10000) (number_at f 18)
     → r ≡ floor && ceiling && u
     → r ≡ ranged f
 unfolding ranged
-ranged-joined f floor ceiling u r = rw (floor, ceiling, u) at r
+ranged_joined f floor ceiling u r = rw (floor, ceiling, u) at r
 
 -- what was handed out at a place, by another name of the place
 pub record_there : (f : List ℕ) {at place : ℕ} (r : Record) → at ≡ place → IsRecord f at r → IsRecord f place r

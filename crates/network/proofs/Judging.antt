@@ -54,16 +54,16 @@ module _ (f : List ℕ) where
   at_header e = inl (refl, (e, refl))
 
   -- number 2, where the counts failed
-  pub at-counts : headed f ≡ true → counted f ≡ false → Judged f (Faulty Counts)
-  at-counts h e = inr (passed h, inl (refl, (e, refl)))
+  pub at_counts : headed f ≡ true → counted f ≡ false → Judged f (Faulty Counts)
+  at_counts h e = inr (passed h, inl (refl, (e, refl)))
 
   -- number 3, where the length failed
   pub at_length : headed f ≡ true → counted f ≡ true → sized f ≡ false → Judged f (Faulty Length)
   at_length h c e = inr (passed h, inr (passed c, inl (refl, (e, refl))))
 
   -- number 4, where a range failed
-  pub at-ranges : headed f ≡ true → counted f ≡ true → sized f ≡ true → ranged f ≡ false → Judged f (Faulty Ranges)
-  at-ranges h c s e = inr (passed h, inr (passed c, inr (passed s, inl (refl, (e, refl)))))
+  pub at_ranges : headed f ≡ true → counted f ≡ true → sized f ≡ true → ranged f ≡ false → Judged f (Faulty Ranges)
+  at_ranges h c s e = inr (passed h, inr (passed c, inr (passed s, inl (refl, (e, refl)))))
 
   -- where all four passed, the records decide
   pub at_records : (v : Verdict) → headed f ≡ true → counted f ≡ true → sized f ≡ true → ranged f ≡ true → RecordsJudged f v → Judged f v

@@ -15,7 +15,7 @@ use lib.Seq.{get_or-append-add}
 use lib.Dec.{eqb}
 use borrow.Author.Tests.{le-leb, eq-eqb}
 use Rattle.whole.specs.Four.{number_at, word_at, signed_of, four, bytes_of, word_of}
-use Rattle.whole.proofs.Four.{number_past, number-first, four-length}
+use Rattle.whole.proofs.Four.{number_past, number_first, four-length}
 use Rattle.whole.proofs.Lin.{lin, minus}
 use Rattle.paper.specs.File.{natural, marked, within, windowed, headed, counted, sized, ranged, registers, paths, register_place, path_place, register_ok, path_ok}
 use Rattle.paper.specs.Limits.{most_registers, most_paths}
@@ -130,11 +130,11 @@ module _ (n m : ℕ) (from : 1 ≤ n) (to : n ≤ most_registers) (most : m ≤ 
   -- the counts are read back from the header
   registers_read : number_at (plain n m) 2 ≡ pos n
   unfolding plain number_at word_at four bytes_of
-  registers_read = number-first (pos n) [] (record { sfits = omega arith })
+  registers_read = number_first (pos n) [] (record { sfits = omega arith })
 
   paths_read : number_at (plain n m) 6 ≡ pos m
   unfolding plain number_at word_at four bytes_of
-  paths_read = number-first (pos m) [] (record { sfits = omega arith })
+  paths_read = number_first (pos m) [] (record { sfits = omega arith })
 
   -- and each test of the table passes: of the header,
   headed_passes : headed (plain n m) ≡ true
@@ -154,9 +154,9 @@ module _ (n m : ℕ) (from : 1 ≤ n) (to : n ≤ most_registers) (most : m ≤ 
   ranged_passes = refl
 
   -- of each register, whose record stands behind the header and the registers before it,
-  registers-pass : (i : ℕ) → i < registers (plain n m) → register_ok (plain n m) i ≡ true
+  registers_pass : (i : ℕ) → i < registers (plain n m) → register_ok (plain n m) i ≡ true
   unfolding plain
-  registers-pass i h =
+  registers_pass i h =
       let t = blank_there 82 71 n i (rw registers_read at h) in
       register_passes (plain n m) i
       (blank_at (plain n m) (header n m ++ blanks 82 71 i) (t.0 ++ blanks 80 84 m) (22 + 18 * i) 82 71
@@ -164,9 +164,9 @@ module _ (n m : ℕ) (from : 1 ≤ n) (to : n ≤ most_registers) (most : m ≤ 
       (simp (length-append, four-length) (omega (arith, blanks_length 82 71 i))))
 
   -- and of each path, whose record stands behind all registers and the paths before it
-  paths-pass : (p : ℕ) → p < paths (plain n m) → path_ok (plain n m) p ≡ true
+  paths_pass : (p : ℕ) → p < paths (plain n m) → path_ok (plain n m) p ≡ true
   unfolding plain
-  paths-pass p h =
+  paths_pass p h =
       let t = blank_there 80 84 m p (rw paths_read at h) in
       let e : registers (plain n m) ≡ n = ap natural registers_read in
       path_passes (plain n m) p (rw e from)
@@ -177,7 +177,7 @@ module _ (n m : ℕ) (from : 1 ≤ n) (to : n ≤ most_registers) (most : m ≤ 
   -- no refusal that stands before 7 applies
   plain_accepted : Accepted (plain n m)
   plain_accepted =
-      (passed headed_passes, (passed counted_passes, (passed sized_passes, (passed ranged_passes, (all_passed registers-pass, (all_passed paths-pass, tt))))))
+      (passed headed_passes, (passed counted_passes, (passed sized_passes, (passed ranged_passes, (all_passed registers_pass, (all_passed paths_pass, tt))))))
 
 -- as many registers and paths as the counts allow
 unfoldable pub greatest : List ℕ

@@ -11,7 +11,7 @@ use lib.Signed.{le_z, ◌≤ℤ◌}
 use lib.ListN.{length}
 use lib.Dec.{eqb}
 use borrow.Author.Tests.{eqb-true}
-use Rattle.whole.proofs.Lin.{lin, minus, le_goal, le-true, true_not_false}
+use Rattle.whole.proofs.Lin.{lin, minus, le_goal, le_true, true_not_false}
 use Rattle.whole.specs.Four.{number_at}
 pub use Rattle.whole.specs.Between.{Between}
 pub use Rattle.paper.specs.Legal.{Legal}
@@ -57,13 +57,13 @@ passes false h = absurd (h 0 (refl, refl))
 
 -- Where no record is the lowest of which the test fails, it passes of every record: by counting up, each record before it having passed.
 module _ (ok : ℕ → Bool) (n : ℕ) (none : (p : ℕ) → Lowest ok n p → ⊥) where
-  pass-at : (p : ℕ) → p < n → ((q : ℕ) → q < p → ok q ≡ true) → (t : Bool) → ok p ≡ t → ok p ≡ true
-  pass-at p l before true e = e
-  pass-at p l before false e = absurd (none p (l, e, before))
+  pass_at : (p : ℕ) → p < n → ((q : ℕ) → q < p → ok q ≡ true) → (t : Bool) → ok p ≡ t → ok p ≡ true
+  pass_at p l before true e = e
+  pass_at p l before false e = absurd (none p (l, e, before))
 
   pass_more : (k : ℕ) → k < n → ((q : ℕ) → q < k → ok q ≡ true) → (q : ℕ) → q < suc k → Dec (q < k) → ok q ≡ true
   pass_more k l before q g (yes h) = before q h
-  pass_more k l before q g (no h) = let e : q ≡ k = omega arith in rw e (pass-at k l before (ok k) refl)
+  pass_more k l before q g (no h) = let e : q ≡ k = omega arith in rw e (pass_at k l before (ok k) refl)
 
   pass_below : (k : ℕ) → k ≤ n → (q : ℕ) → q < k → ok q ≡ true
   pass_below zero l q g = absurd (omega arith)
@@ -143,7 +143,7 @@ path_passed f p e =
       mark = a.0;
       in_from = within_is _ _ _ a.1;
       in_to = within_is _ _ _ b.1;
-      dmin_from = le_goal _ _ (le-true (pos 0) (number_at f (path_place f p + 10)) c.1);
+      dmin_from = le_goal _ _ (le_true (pos 0) (number_at f (path_place f p + 10)) c.1);
       in_dmax = within_is _ _ _ d.1;
     }
 

@@ -117,20 +117,20 @@ need_shifts a b k P some apart =
 
 module _ (N : Network) where
   -- RULES 4.3: "the sum of its amounts without their P terms": each setup rule of a loop takes P off once
-  pub total-at : (P : ℕ) (l : List Rule) → total (amount N P) l +ℤ pos (setups l * P) ≡ total (base N) l
-  total-at P [] = omega lin
-  total-at P (Setup p ∷ l) =
-      let ih = total-at P l in
+  pub total_at : (P : ℕ) (l : List Rule) → total (amount N P) l +ℤ pos (setups l * P) ≡ total (base N) l
+  total_at P [] = omega lin
+  total_at P (Setup p ∷ l) =
+      let ih = total_at P l in
       omega (lin, suc-mul (setups l) P, minus (base N (Setup p)) (pos P), plus (base N (Setup p) -ℤ pos P) (total (amount N P) l))
-  total-at P (Hold p ∷ l) = let ih = total-at P l in omega (lin, plus (base N (Hold p)) (total (amount N P) l))
-  total-at P (Low i ∷ l) = let ih = total-at P l in omega (lin, plus (base N (Low i)) (total (amount N P) l))
-  total-at P (High i ∷ l) = let ih = total-at P l in omega (lin, plus (base N (High i)) (total (amount N P) l))
+  total_at P (Hold p ∷ l) = let ih = total_at P l in omega (lin, plus (base N (Hold p)) (total (amount N P) l))
+  total_at P (Low i ∷ l) = let ih = total_at P l in omega (lin, plus (base N (Low i)) (total (amount N P) l))
+  total_at P (High i ∷ l) = let ih = total_at P l in omega (lin, plus (base N (High i)) (total (amount N P) l))
 
   -- RULES 4.5: "A loop with setup rules contradicts itself at exactly the whole periods below its need."
   pub contradicts_below_need : (P : ℕ) (l : List Rule) → 0 < setups l → Contradicts N P l ↔ (pos P <ℤ need N l)
   contradicts_below_need P l h = (
-    (λ c. over_below _ _ (setups l) P h (total-at P l) (need N l) c (up_enough (total (base N) l) (setups l) h)),
-    below_over _ _ (setups l) P h (total-at P l),
+    (λ c. over_below _ _ (setups l) P h (total_at P l) (need N l) c (up_enough (total (base N) l) (setups l) h)),
+    below_over _ _ (setups l) P h (total_at P l),
   )
 
   -- RULES 4.5: "A loop without them contradicts itself at every period or at none."
@@ -141,12 +141,12 @@ module _ (N : Network) where
       none P = rw h (omega arith)
 
       at : (P Q : ℕ) → Contradicts N P l → Contradicts N Q l
-      at P Q c = omega (lin, total-at P l, total-at Q l, none P, none Q)
+      at P Q c = omega (lin, total_at P l, total_at Q l, none P, none Q)
 
   -- RULES 4.3: "A loop that has k setup rules, k at least 1, needs a period": its need from its sum at any period P, of which only what is
   -- over P is rounded
   pub need_from : (P : ℕ) (l : List Rule) → 0 < setups l → need N l ≡ pos P +ℤ round_up (total (amount N P) l) (setups l)
-  need_from P l h = need_shifts _ _ (setups l) P h (total-at P l)
+  need_from P l h = need_shifts _ _ (setups l) P h (total_at P l)
 
   -- a schedule meets the arrow of every rule
   schedule_meets : (P : ℕ) (x : ℕ → ℤ) → Schedule N P x → (l : List Rule) → All (Exists N) l → All (Meets (tail N) (head N) (amount N P) x) l

@@ -9,7 +9,7 @@ use lib.IntN.{ℤ, pos}
 use lib.ListN.{length, length-append}
 use lib.Seq.{sets, sets-eq}
 use Rattle.whole.specs.Four.{number_at, word_at, four, bytes_of}
-use Rattle.whole.proofs.Four.{number-first, four-length}
+use Rattle.whole.proofs.Four.{number_first, four-length}
 use Rattle.paper.specs.Rules.{Rule}
 use Rattle.paper.specs.Output.{skew_record, latency_records, entry_records, Front}
 
@@ -31,7 +31,7 @@ entries-length (r ∷ l) = simp (length-append, four-length, entries-length l) (
 
 back : (n : ℕ) → n < 2147483648 → number_at (four (pos n)) 0 ≡ pos n
 unfolding four bytes_of
-back n h = number-first (pos n) [] (record { sfits = omega arith })
+back n h = number_first (pos n) [] (record { sfits = omega arith })
 
 module _ (P n k : ℕ) (rest : List ℕ) where
   -- the three numbers of the first record are read back
@@ -39,13 +39,13 @@ module _ (P n k : ℕ) (rest : List ℕ) where
   unfolding number_at word_at four bytes_of
   period_back h = back P h
 
-  pub latencies-back : n < 2147483648 → number_at (skew_record P n k ++ rest) 6 ≡ pos n
+  pub latencies_back : n < 2147483648 → number_at (skew_record P n k ++ rest) 6 ≡ pos n
   unfolding number_at word_at four bytes_of
-  latencies-back h = back n h
+  latencies_back h = back n h
 
-  pub entries-back : k < 2147483648 → number_at (skew_record P n k ++ rest) 10 ≡ pos k
+  pub entries_back : k < 2147483648 → number_at (skew_record P n k ++ rest) 10 ≡ pos k
   unfolding number_at word_at four bytes_of
-  entries-back h = back k h
+  entries_back h = back k h
 
 -- ---- what they hold
 

@@ -20,7 +20,7 @@ use Rattle.paper.specs.Schedule.{Schedule, IsLoop, Contradicts, setups}
 use Rattle.paper.specs.File.{natural}
 use Rattle.paper.specs.Question.{Question, Asked, slack_asked, Says, Yes, No}
 use Rattle.paper.proofs.RuleLaws.{slack_is, met_is_written}
-use Rattle.paper.proofs.LoopLaws.{total-at, loop_binds_schedule}
+use Rattle.paper.proofs.LoopLaws.{total_at, loop_binds_schedule}
 use Rattle.paper.proofs.NumberLaws.{asked_one}
 
 -- ---- yes and no
@@ -32,8 +32,8 @@ not_from_zero (negsuc n) h = omega lin
 
 module _ (N : Network) (q : Question) (d : Delay) (says : Says N q (reply.Slack d)) (r : Rule) (asked-for : Asked N q r) where
   -- a question asks for one rule, so the slack that is told is this one's
-  pub slack-told : d.0 ≡ slack_asked N q r
-  slack-told = says.2 ∙ rw (asked_one N q says.0 r says.1 asked-for)
+  pub slack_told : d.0 ≡ slack_asked N q r
+  slack_told = says.2 ∙ rw (asked_one N q says.0 r says.1 asked-for)
 
   -- the rule's inequality, with the latencies that are given
   abbrev Written : Type 0
@@ -41,7 +41,7 @@ module _ (N : Network) (q : Question) (d : Delay) (says : Says N q (reply.Slack 
 
   -- RULES 8.5: "the answer is yes exactly when the inequality of the rule holds, and else no"
   pub slack_yes : Yes (reply.Slack d) ↔ Written
-  slack_yes = rw slack-told (met_is_written N (natural q.period) r q.tail_latency q.head_latency)
+  slack_yes = rw slack_told (met_is_written N (natural q.period) r q.tail_latency q.head_latency)
 
   pub slack_no : No (reply.Slack d) ↔ (Written → ⊥)
   slack_no = ((λ n h. let y = slack_yes.1 h in omega lin), (λ n. not_from_zero d.0 (λ y. n (slack_yes.0 y))))
@@ -103,12 +103,12 @@ module _ (N : Network) where
   one_period_less zero l h = absurd (omega arith)
   one_period_less (suc P) l h =
       let less : suc P - 1 ≡ P = omega arith in
-      rw less (omega (lin, total-at N P l, total-at N (suc P) l, mul-suc (setups l) P))
+      rw less (omega (lin, total_at N P l, total_at N (suc P) l, mul-suc (setups l) P))
 
   -- So the slacks at the period add up to less than the number of setup rules exactly when the amounts at the period less 1 add up to at least 1.
-  pub slacks-below : (P : ℕ) (x : ℕ → ℤ) → 0 < P → x 0 ≡ pos 0 → (l : List Rule) → IsLoop N l
+  pub slacks_below : (P : ℕ) (x : ℕ → ℤ) → 0 < P → x 0 ≡ pos 0 → (l : List Rule) → IsLoop N l
       → (total (slack_by N P x) l <ℤ pos (setups l)) ↔ Contradicts N (P - 1) l
-  slacks-below P x from host l i =
+  slacks_below P x from host l i =
       let s = loop_slacks P x host l i in
       let a = one_period_less P l from in
       ((λ h. omega lin), (λ h. omega lin))

@@ -171,8 +171,8 @@ module _ (f : List ℕ) where
   faults_one_place = (fails_one _, (fails_one _, (fails_one _, (fails_one _, (lowest_one _ _, (lowest_one _ _, tt))))))
 
   -- it is the number of a record at most, and the counts of records have been found in range by then
-  pub faults-below : Below 2048 (faults f)
-  faults-below = (
+  pub faults_below : Below 2048 (faults f)
+  faults_below = (
     zero,
     λ _. (
       zero,

@@ -36,7 +36,7 @@ most_latency = pos 1000000
 abbrev pub most_delay : ℤ
 most_delay = pos 1000000
 
--- the room that an answer may need (RULES 7.1): `SK`, n records `Lt`, and a loop of at most n entries `ED`
+-- the room that an answer may need (RULES 7.1): `SK`, n records `LT`, and a loop of at most n entries `ED`
 abbrev pub room_for : ℕ → ℕ
 room_for n = 14 + 16 * n
 

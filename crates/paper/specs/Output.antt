@@ -1,7 +1,7 @@
 -- The answer's bytes.
 --
 -- RULES 7.2: "The first record has 14 bytes: `SK` (83, 75), then the period, the number of latencies and the number of loop entries."
--- RULES 7.3: "Then comes a record for each latency, register 0 first, 6 bytes each: `Lt` (76, 84), then the latency."
+-- RULES 7.3: "Then comes a record for each latency, register 0 first, 6 bytes each: `LT` (76, 84), then the latency."
 -- RULES 7.4: "Then comes a record for each entry of the loop, 10 bytes each: `ED` (69, 68), then the kind's number (2.2) and the number of
 -- the path or register that names the rule (2.4)."
 use Rattle.std.specs.Prelude.{◌≡◌, List, [], ◌∷◌, ◌++◌, ℕ, zero, suc, ℤ, pos, length, drop}

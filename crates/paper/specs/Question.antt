@@ -20,27 +20,27 @@ use Rattle.paper.specs.Limits.{most_period, least_latency, most_latency}
 -- a question: the period, the rule's kind and number, the latencies at the arrow's tail and head
 pub record Question : Type 0 where
   pub period : ℤ
-  pub kind-asked : ℤ
-  pub number-asked : ℤ
+  pub kind_asked : ℤ
+  pub number_asked : ℤ
   pub tail_latency : ℤ
   pub head_latency : ℤ
 
 -- the five numbers of a call, as a question
 abbrev pub asked : (period kind number tail head : ℤ) → Question
 asked period kind number tail head =
-    record { period = period; kind-asked = kind; number-asked = number; tail_latency = tail; head_latency = head }
+    record { period = period; kind_asked = kind; number_asked = number; tail_latency = tail; head_latency = head }
 
 module _ (N : Network) (q : Question) where
   -- the rule that is asked for
   pub record Asked (r : Rule) : Type 0 where
-    pub of_kind : q.kind-asked ≡ pos (kind r)
-    pub of_number : q.number-asked ≡ pos (number r)
+    pub of_kind : q.kind_asked ≡ pos (kind r)
+    pub of_number : q.number_asked ≡ pos (number r)
     pub exists : Exists N r
 
   pub record InRange : Type 0 where
     pub period_within : within (pos 1) (pos most_period) q.period ≡ true
     pub tail_within : within least_latency most_latency q.tail_latency ≡ true
-    pub head-within : within least_latency most_latency q.head_latency ≡ true
+    pub head_within : within least_latency most_latency q.head_latency ≡ true
     pub rule : (r : Rule) × Asked r
 
   -- the slack of a rule, by the period and the latencies that are given

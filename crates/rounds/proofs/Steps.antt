@@ -31,8 +31,8 @@ module _ (Γ : Arrows) (a b : List ℤ) (preds : List ℕ) (e : ℕ) (k : Liftab
       rw is (record { stands = omega arith; exists = omega arith; fits = omega (lin, plus (at a (tail Γ e)) (amount Γ e)) })
 
   -- the head is a register
-  pub lift-below : (h : ℕ) → h ≡ head Γ e → h < Γ.registers
-  lift-below h is = rw is (k.shape.sound.reaches e k.exists)
+  pub lift_below : (h : ℕ) → h ≡ head Γ e → h < Γ.registers
+  lift_below h is = rw is (k.shape.sound.reaches e k.exists)
 
   module _ (t h : ℕ) (x : ℤ) (raised : Bool) (leaves : t ≡ tail Γ e) (reaches : h ≡ head Γ e) (asks : x ≡ at a t +ℤ amount Γ e) where
     offer_is : x ≡ offered Γ a e

@@ -19,7 +19,7 @@ use Rattle.loops.proofs.Kept.{round_grows, round_exact, round_fed, round_still, 
 use Rattle.loops.proofs.Settle.{settled_tight, rows_from}
 use Rattle.loops.proofs.Ends.{gap_falls}
 use Rattle.loops.proofs.Relax.{circled_ends}
-use Rattle.loops.proofs.Rooted.{stray-above, stray-below}
+use Rattle.loops.proofs.Rooted.{stray_above, stray_below_lem}
 use Rattle.loops.proofs.Begun.{root_kept}
 use Rattle.loops.specs.Shape.{Shape, Times}
 use Rattle.circles.specs.Circle.{ShowsCircle}
@@ -149,7 +149,7 @@ module _ (Γ : Arrows) (shape : Shape Γ) where
         -- n: the row is settled, and the relaxation goes on, which a number above n says
         pub after_settled : (ring : List ℕ) (found : ℕ) → Bounded Γ → raised ≡ true → Γ.registers ≤ t → Γ.registers < found → Turned Γ a row q ring ring found
         after_settled ring found w h e more =
-            let (whole, all) = stray-above Γ q t s.answer e in
+            let (whole, all) = stray_above Γ q t s.answer e in
             record {
               over = λ g. absurd (omega arith);
               on = λ g. rw (s.row_is whole, preds_is) (turned_settled ring w (sym flag_is ∙ h) (ap (all_rooted Γ) (sym preds_is) ∙ all));
@@ -157,7 +157,7 @@ module _ (Γ : Arrows) (shape : Shape Γ) where
 
         -- where it is a register, the walk back from it does not end
         pub after_unrooted : t < Γ.registers → rooted Γ q Γ.registers t ≡ false
-        after_unrooted = stray-below Γ q t s.answer
+        after_unrooted = stray_below_lem Γ q t s.answer
 
         -- a register: the circle that the walk back from it ends on is listed
         pub after_circled : (entries : ℕ) (before ring : List ℕ) → t < Γ.registers → ShowsCircle Γ q t ring entries → Turned Γ a row q before ring entries

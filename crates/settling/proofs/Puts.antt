@@ -67,14 +67,14 @@ module _ (Γ : Arrows) (preds : List ℕ) (s : ℕ) (old : List ℕ) where
     room : v < length marks
     room = let b = w.below in let l = w.still.marks_long in omega arith
 
-    marked-first : k ≡ 0 → get_or (set marks v 1) s 0 ≡ 1
-    marked-first e = rw (sym (w.begin e)) (get_or-set_same marks v 1 0 room)
+    marked_first : k ≡ 0 → get_or (set marks v 1) s 0 ≡ 1
+    marked_first e = rw (sym (w.begin e)) (get_or-set_same marks v 1 0 room)
 
     marked_start : get_or (set marks v 1) s 0 ≡ 1
     marked_start = go (ℕ_discrete k 0)
       where
         go : Dec (k ≡ 0) → get_or (set marks v 1) s 0 ≡ 1
-        go (yes e) = marked-first e
+        go (yes e) = marked_first e
         go (no e) = mark_kept marks v s room (w.done (omega arith))
 
     -- the walk goes on to the pred's tail

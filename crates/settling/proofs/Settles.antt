@@ -14,7 +14,7 @@ use Rattle.loops.specs.Model.{at, settled}
 use Rattle.loops.specs.Forest.{Grounded}
 use Rattle.loops.proofs.Below.{below_next}
 use Rattle.loops.proofs.Grounded.{deep_short}
-use Rattle.loops.proofs.Rooted.{grounded_all, stray-none, stray-first}
+use Rattle.loops.proofs.Rooted.{grounded_all, stray_none, stray_first}
 use Rattle.loops.proofs.Worth.{worth_deep, settled-length, settled_at}
 use Rattle.loops.specs.Shape.{Shape}
 use Rattle.settling.specs.Settling.{Gives, Marked, Walks, Marks, Settles, Walked, Hopped, SettledOne}
@@ -56,7 +56,7 @@ module _ (Γ : Arrows) (preds : List ℕ) (shape : Shape Γ) where
       → (Grounded Γ preds s → ⊥) → Settles Γ preds row' s
   settles_no old row row' marks s b w h =
       record {
-        answer = sym (stray-first Γ preds shape.sound s b (λ v q. gives_grounded Γ preds v _ (w.still.stands v (omega arith) (w.done v q))) h);
+        answer = sym (stray_first Γ preds shape.sound s b (λ v q. gives_grounded Γ preds v _ (w.still.stands v (omega arith) (w.done v q))) h);
         row_is = λ e. absurd (omega arith);
       }
 
@@ -75,7 +75,7 @@ module _ (Γ : Arrows) (preds : List ℕ) (shape : Shape Γ) where
     settles_yes =
         let whole : s ≡ Γ.registers = let f = w.so_far in omega arith in
         record {
-          answer = whole ∙ sym (stray-none Γ preds Γ.registers (grounded_all Γ preds shape.sound (λ v b. gives_grounded Γ preds v _ (gives v b))));
+          answer = whole ∙ sym (stray_none Γ preds Γ.registers (grounded_all Γ preds shape.sound (λ v b. gives_grounded Γ preds v _ (gives v b))));
           row_is =
               λ e.
               ext_get_or (pos 0) row (settled Γ preds) (w.still.row_long ∙ sym (settled-length Γ preds))

@@ -110,7 +110,7 @@ module _ (t : List Row) (places : OnePlaces t) {N : Network} {q : Question} {o :
         record {
           period_within = passes _ (λ p x. g.0 0 ((λ i. true_not_false i.period_within x.0), refl));
           tail_within = passes _ (λ p x. g.0 0 ((λ i. true_not_false i.tail_within x.0), refl));
-          head-within = passes _ (λ p x. g.0 0 ((λ i. true_not_false i.head-within x.0), refl));
+          head_within = passes _ (λ p x. g.0 0 ((λ i. true_not_false i.head_within x.0), refl));
           rule = k;
         }
 

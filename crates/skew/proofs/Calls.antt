@@ -30,11 +30,11 @@ given_rest (r ∷ t) s n p c (inr g) = given_rest t s n p c.1 g.1
 
 module _ (N : Network) (room : ℕ) where
   -- the rows from 7 on give no refusal's number
-  none-refused : (x : Refusal) (p : ℕ) → Given (schedule_rows N room) (refusal_number x) p → ⊥
-  none-refused x p (inl g) = refusal_apart x 7 (λ p. refl) (sym g.0)
-  none-refused x p (inr (s, inl g)) = refusal_apart x 8 (λ p. refl) (sym g.0)
-  none-refused x p (inr (s, inr (t, inl g))) = refusal_apart x 9 (λ p. refl) (sym g.0)
-  none-refused x p (inr (s, inr (t, inr (u, g)))) = refusal_apart x 0 (λ p. refl) (sym g.0)
+  none_refused : (x : Refusal) (p : ℕ) → Given (schedule_rows N room) (refusal_number x) p → ⊥
+  none_refused x p (inl g) = refusal_apart x 7 (λ p. refl) (sym g.0)
+  none_refused x p (inr (s, inl g)) = refusal_apart x 8 (λ p. refl) (sym g.0)
+  none_refused x p (inr (s, inr (t, inl g))) = refusal_apart x 9 (λ p. refl) (sym g.0)
+  none_refused x p (inr (s, inr (t, inr (u, g)))) = refusal_apart x 0 (λ p. refl) (sym g.0)
 
   -- RULES 6.2: "there is a schedule at some period, but at none up to the ceiling": what number 9 says
   pub given_9 : (p : ℕ) → Given (schedule_rows N room) 9 p → NoneToCeiling N
@@ -66,7 +66,7 @@ module _ (t : List Row) {N : Network} {before after : List ℕ} {o : Outcome} (r
     where
       to : ByFirst ⊎ (Clear t × ByRest) → o ≡ outcome.Refused x → Given t (refusal_number x) (refusal_place x)
       to (inl b) e = rw e at (by_row_given t (outcome_number o) (outcome_place o) b)
-      to (inr c) e = absurd (none-refused N (length before) x (refusal_place x) (rw e at c.1))
+      to (inr c) e = absurd (none_refused N (length before) x (refusal_place x) (rw e at c.1))
 
       from : Given t (refusal_number x) (refusal_place x) → o ≡ outcome.Refused x
       from g =
@@ -81,7 +81,7 @@ module _ (t : List Row) {N : Network} {before after : List ℕ} {o : Outcome} (r
   clear_iff refuses = (to, λ h. from h parted)
     where
       to : Clear t → (x : Refusal) → o ≡ outcome.Refused x → ⊥
-      to c x e = none-refused N (length before) x (refusal_place x) (rw e at (rest_given c))
+      to c x e = none_refused N (length before) x (refusal_place x) (rw e at (rest_given c))
 
       from : ((x : Refusal) → o ≡ outcome.Refused x → ⊥) → ByFirst ⊎ (Clear t × ByRest) → Clear t
       from h (inl b) = let x = refuses (outcome_number o) (outcome_place o) b in absurd (h x.0 (outcome_known o (outcome.Refused x.0) x.1 x.2))

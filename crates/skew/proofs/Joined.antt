@@ -22,7 +22,7 @@ use Rattle.paper.proofs.Legal.{Legal, is_within, accepted_legal}
 use Rattle.paper.proofs.RuleLaws.{met_is_rule}
 use Rattle.paper.proofs.TableLaws.{OnePlaces, one_places_append, question_one_place, faults_one_place}
 use Rattle.paper.proofs.NumberLaws.{asked_one, reply_one}
-use Rattle.loops.proofs.Places.{tail-below, head-below, legal_joined}
+use Rattle.loops.proofs.Places.{tail_below, head_below, legal_joined}
 use Rattle.skew.specs.Asks.{question_of, LatenciesInRange, TellsSlack, SaysYes, FileTellsSlack, FileSaysYes}
 use Rattle.skew.proofs.Numbers.{accepted_beyond}
 use Rattle.skew.proofs.Demands.{returned_answer}
@@ -48,8 +48,8 @@ module _ (N : Network) (l : Legal N) (P : ℕ) (from : 1 ≤ P) (to : P ≤ most
   in_range =
       record {
         period_within = is_within (pos 1) (pos most_period) (pos P) (record { from = omega lin; to = omega lin });
-        tail_within = is_within least_latency most_latency _ (w (tail N r) (tail-below N (legal_joined N l) r e));
-        head-within = is_within least_latency most_latency _ (w (head N r) (head-below N (legal_joined N l) r e));
+        tail_within = is_within least_latency most_latency _ (w (tail N r) (tail_below N (legal_joined N l) r e));
+        head_within = is_within least_latency most_latency _ (w (head N r) (head_below N (legal_joined N l) r e));
         rule = (r, asked);
       }
 

@@ -37,7 +37,7 @@ asked_read p k n t h = rw (to_z-of_z p, to_z-of_z k, to_z-of_z n, to_z-of_z t, t
 -- ---- tested
 
 -- the three tests that the code joins are the ranges of the numbers
-pub numbers-joined : {period tail head : ℤ} {p t h r : Bool}
+pub numbers_joined : {period tail head : ℤ} {p t h r : Bool}
     → SFits w32 period
     → SFits w32 tail
     → SFits w32 head
@@ -47,13 +47,13 @@ pub numbers-joined : {period tail head : ℤ} {p t h r : Bool}
     → r ≡ p && t && h
     → r ≡ numbers_within period tail head
 unfolding numbers_within
-numbers-joined fp ft fh p t h r = rw (p, t, h, to_z-of_z fp, to_z-of_z ft, to_z-of_z fh) at r
+numbers_joined fp ft fh p t h r = rw (p, t, h, to_z-of_z fp, to_z-of_z ft, to_z-of_z fh) at r
 
 -- each of the three numbers lies in its range
 pub record Numbers (period tail head : ℤ) : Type 0 where
   pub period_within : within (pos 1) (pos 10000000) period ≡ true
   pub tail_within : within (negsuc 999999) (pos 1000000) tail ≡ true
-  pub head-within : within (negsuc 999999) (pos 1000000) head ≡ true
+  pub head_within : within (negsuc 999999) (pos 1000000) head ≡ true
 
 -- a passed test says so of each number
 pub numbers_in : {period tail head : ℤ} → numbers_within period tail head ≡ true → Numbers period tail head
@@ -61,12 +61,12 @@ unfolding numbers_within
 numbers_in e =
     let a = both _ _ e in
     let b = both _ _ a.0 in
-    record { period_within = b.0; tail_within = b.1; head-within = a.1 }
+    record { period_within = b.0; tail_within = b.1; head_within = a.1 }
 
 -- and back
 pub in_numbers : {period tail head : ℤ} → Numbers period tail head → numbers_within period tail head ≡ true
 unfolding numbers_within
-in_numbers n = rw (n.period_within, n.tail_within, n.head-within)
+in_numbers n = rw (n.period_within, n.tail_within, n.head_within)
 
 -- ---- a rule that is asked for
 
@@ -92,7 +92,7 @@ module _ {f : List ℕ} {n : ℕ} {q : Question} (p : Askable f n q) where
   tail_small = small_latency p.in_range.tail_within
 
   pub head_small : Small q.head_latency
-  head_small = small_latency p.in_range.head-within
+  head_small = small_latency p.in_range.head_within
 
   pub amount_is_small : (r : Rule) {d : ℤ} → Asked (network_of f) q r → d ≡ amount (network_of f) (natural q.period) r → Small d
   amount_is_small r a e = rw e (amount_small legal (natural q.period) r (period_most q.period p.in_range.period_within) a.exists)

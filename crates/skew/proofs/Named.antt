@@ -44,8 +44,8 @@ host_tells k n h = rw (le-ltb 0 k (omega arith)) (λ x. h x.0)
 
 -- where a test tells whether the rule r exists, it tells whether any rule of r's kind and number does
 tells : (N : Network) (q : Question) (r : Rule) (t : Bool)
-    → q.kind-asked ≡ pos (kind r)
-    → q.number-asked ≡ pos (number r)
+    → q.kind_asked ≡ pos (kind r)
+    → q.number_asked ≡ pos (number r)
     → Tells t (Exists N r)
     → Tells t ((s : Rule) × Asked N q s)
 tells N q r true k n e = (r, record { of_kind = k; of_number = n; exists = e })
@@ -115,34 +115,34 @@ module _ {n m : ℕ} {z y : ℤ} where
 
 module _ {f : List ℕ} {n : ℕ} {q : Question} (p : Askable f n q) where
   -- the number of a rule that exists is not below 0
-  pub number_from : pos 0 ≤ℤ q.number-asked
+  pub number_from : pos 0 ≤ℤ q.number_asked
   number_from = let e = p.in_range.rule.1.of_number in omega lin
 
   -- it is the rule of that kind and number
-  pub named : (r : Rule) → q.kind-asked ≡ pos (kind r) → number r ≡ nat_abs q.number-asked → Asked (network_of f) q r
+  pub named : (r : Rule) → q.kind_asked ≡ pos (kind r) → number r ≡ nat_abs q.number_asked → Asked (network_of f) q r
   named r k n =
       let s = p.in_range.rule in
       let l = s.1.of_kind in
-      let m = abs_is q.number-asked number_from in
+      let m = abs_is q.number_asked number_from in
       let g = s.1.of_number in
       let same : s.0 ≡ r = rule_named s.0 r (omega lin) (omega lin) in
       record { of_kind = k; of_number = omega lin; exists = rw same at s.1.exists }
 
   -- where it is none of the first three kinds, the fourth
-  pub named-last : (of_z w32 q.kind-asked ≡ 0 → ⊥) → (of_z w32 q.kind-asked ≡ 1 → ⊥) → (of_z w32 q.kind-asked ≡ 2 → ⊥) → q.kind-asked ≡ pos 3
-  named-last a b c = last p.in_range.rule.0 p.in_range.rule.1.of_kind
+  pub named_last : (of_z w32 q.kind_asked ≡ 0 → ⊥) → (of_z w32 q.kind_asked ≡ 1 → ⊥) → (of_z w32 q.kind_asked ≡ 2 → ⊥) → q.kind_asked ≡ pos 3
+  named_last a b c = last p.in_range.rule.0 p.in_range.rule.1.of_kind
     where
-      last : (r : Rule) → q.kind-asked ≡ pos (kind r) → q.kind-asked ≡ pos 3
+      last : (r : Rule) → q.kind_asked ≡ pos (kind r) → q.kind_asked ≡ pos 3
       last (Setup i) e = absurd (a (ap (of_z w32) e))
       last (Hold i) e = absurd (b (ap (of_z w32) e))
       last (Low i) e = absurd (c (ap (of_z w32) e))
       last (High i) e = e
 
 -- the slack of the rule that is asked for is that of its arrow
-pub asked-slack : {N : Network} {q : Question} {d z : ℤ} (r : Rule)
+pub asked_slack : {N : Network} {q : Question} {d z : ℤ} (r : Rule)
     → Asked N q r
     → d ≡ amount N (natural q.period) r
     → z ≡ head_read r q.head_latency -ℤ (tail_read r q.tail_latency +ℤ d)
     → IsSlack N q z
-asked-slack {N} {q} r a e g =
+asked_slack {N} {q} r a e g =
     λ s b. rw (asked_one N q s r b a, slack_is N (natural q.period) r q.tail_latency q.head_latency) (rw e at g)

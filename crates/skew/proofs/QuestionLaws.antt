@@ -98,31 +98,31 @@ other_hold_as_given f accepted p path apart P a b o in_range answers =
 -- in the host's latency alone have one reply, whether or not the file is accepted
 module _ (f : List ℕ) (period number : ℤ) where
   -- a low rule is asked for, with the host's latency at its tail; and a high rule, with it at its head
-  abbrev low-asked : (host other : ℤ) → Question
-  low-asked host other = asked period (pos 2) number host other
+  abbrev low_asked : (host other : ℤ) → Question
+  low_asked host other = asked period (pos 2) number host other
 
-  abbrev high-asked : (host other : ℤ) → Question
-  high-asked host other = asked period (pos 3) number other host
+  abbrev high_asked : (host other : ℤ) → Question
+  high_asked host other = asked period (pos 3) number other host
 
-  pub host_unread_low : (h h' x : ℤ) {o o' : Reply} → InRange (network_of f) (low-asked h x) → InRange (network_of f) (low-asked h' x)
-      → FileAnswers f (low-asked h x) o → FileAnswers f (low-asked h' x) o' → o ≡ o'
+  pub host_unread_low : (h h' x : ℤ) {o o' : Reply} → InRange (network_of f) (low_asked h x) → InRange (network_of f) (low_asked h' x)
+      → FileAnswers f (low_asked h x) o → FileAnswers f (low_asked h' x) o' → o ≡ o'
   host_unread_low h h' x i i' =
       asking.same_reply (faults f) (faults_one_place f) i i'
       (λ r k. (record { of_kind = k.of_kind; of_number = k.of_number; exists = k.exists }, same r k.of_kind))
     where
-      same : (r : Rule) → pos 2 ≡ pos (kind r) → slack_asked (network_of f) (low-asked h x) r ≡ slack_asked (network_of f) (low-asked h' x) r
+      same : (r : Rule) → pos 2 ≡ pos (kind r) → slack_asked (network_of f) (low_asked h x) r ≡ slack_asked (network_of f) (low_asked h' x) r
       same (Setup p) e = absurd (omega lin)
       same (Hold p) e = absurd (omega lin)
       same (Low i) e = refl
       same (High i) e = absurd (omega lin)
 
-  pub host_unread_high : (h h' x : ℤ) {o o' : Reply} → InRange (network_of f) (high-asked h x) → InRange (network_of f) (high-asked h' x)
-      → FileAnswers f (high-asked h x) o → FileAnswers f (high-asked h' x) o' → o ≡ o'
+  pub host_unread_high : (h h' x : ℤ) {o o' : Reply} → InRange (network_of f) (high_asked h x) → InRange (network_of f) (high_asked h' x)
+      → FileAnswers f (high_asked h x) o → FileAnswers f (high_asked h' x) o' → o ≡ o'
   host_unread_high h h' x i i' =
       asking.same_reply (faults f) (faults_one_place f) i i'
       (λ r k. (record { of_kind = k.of_kind; of_number = k.of_number; exists = k.exists }, same r k.of_kind))
     where
-      same : (r : Rule) → pos 3 ≡ pos (kind r) → slack_asked (network_of f) (high-asked h x) r ≡ slack_asked (network_of f) (high-asked h' x) r
+      same : (r : Rule) → pos 3 ≡ pos (kind r) → slack_asked (network_of f) (high_asked h x) r ≡ slack_asked (network_of f) (high_asked h' x) r
       same (Setup p) e = absurd (omega lin)
       same (Hold p) e = absurd (omega lin)
       same (Low i) e = absurd (omega lin)

@@ -12,7 +12,7 @@ use lib.ListN.{length, get_or, drop, length-append}
 use mir.Syntax.{w32}
 use mir.Val.{SFits}
 use Rattle.whole.specs.Four.{number_at, four}
-use Rattle.whole.proofs.Four.{number_past, number-first, four-length}
+use Rattle.whole.proofs.Four.{number_past, number_first, four-length}
 use Rattle.paper.specs.Network.{Network}
 use Rattle.paper.specs.Rules.{Rule, Setup, Hold, Low, High, Exists, kind, number, tail, head}
 use Rattle.paper.specs.declared.Outcome.{Outcome}
@@ -23,9 +23,9 @@ use Rattle.paper.specs.Outcome.{FileResult}
 use Rattle.paper.specs.Output.{skew_record, latency_record, latency_records, entry_record, entry_records, LoopAlone}
 use Rattle.paper.proofs.Legal.{Legal, accepted_legal}
 use Rattle.paper.proofs.LoopLaws.{all_at, all_map}
-use Rattle.paper.proofs.OutputLaws.{latencies-length, period_back, latencies-back, entries-back}
+use Rattle.paper.proofs.OutputLaws.{latencies-length, period_back, latencies_back, entries_back}
 use Rattle.loops.proofs.Pigeonhole.{once_short}
-use Rattle.loops.proofs.Places.{tail-below, legal_joined}
+use Rattle.loops.proofs.Places.{tail_below, legal_joined}
 use Rattle.skew.proofs.Numbers.{accepted_beyond}
 use Rattle.skew.proofs.Joined.{schedule_within}
 use Rattle.skew.specs.Reads.{Reads, ReadsBack}
@@ -33,8 +33,8 @@ use Rattle.whole.specs.Between.{Between}
 use Rattle.paper.specs.Limits.{most_registers, most_paths, most_period, least_latency, most_latency}
 
 -- a number is read where its bytes stand
-number-at : (after a rest : List ℕ) (z : ℤ) (i : ℕ) → after ≡ a ++ (four z ++ rest) → length a ≡ i → SFits w32 z → number_at after i ≡ z
-number-at after a rest z i e n h = rw (e, ← n) (rw (← (add-zero (length a))) (number_past a (four z ++ rest) 0) ∙ number-first z rest h)
+number_at_lem : (after a rest : List ℕ) (z : ℤ) (i : ℕ) → after ≡ a ++ (four z ++ rest) → length a ≡ i → SFits w32 z → number_at after i ≡ z
+number_at_lem after a rest z i e n h = rw (e, ← n) (rw (← (add-zero (length a))) (number_past a (four z ++ rest) 0) ∙ number_first z rest h)
 
 -- ---- the records, and where they stand
 
@@ -97,7 +97,7 @@ module _ (P n : ℕ) (x : ℕ → ℤ) (l : List Rule) (after past : List ℕ) (
       let low = b.from in
       let high = b.to in
       let here = rw t.1 at bytes in
-      number-at after (skew_record P n (length l) ++ latency_records x i ++ 76 ∷ 84 ∷ []) (t.0 ++ entry_records l ++ past) (x i) (14 + 6 * i + 2)
+      number_at_lem after (skew_record P n (length l) ++ latency_records x i ++ 76 ∷ 84 ∷ []) (t.0 ++ entry_records l ++ past) (x i) (14 + 6 * i + 2)
       (here ∙ about_latency (skew_record P n (length l)) (latency_records x i) (four (x i)) [] t.0 (entry_records l) past)
       (simp length-append (omega (arith, four-length (pos P), four-length (pos n), four-length (pos (length l)), latencies-length x i)))
       (omega lin)
@@ -113,11 +113,11 @@ module _ (P n : ℕ) (x : ℕ → ℤ) (l : List Rule) (after past : List ℕ) (
       let H : List ℕ = skew_record P n (length l) in
       let K : List ℕ = four (pos (kind (get_or l j (Low 0)))) in
       let M : List ℕ = four (pos (number (get_or l j (Low 0)))) in (
-        number-at after (H ++ latency_records x n ++ t.first ++ 69 ∷ 68 ∷ []) (M ++ t.rest ++ past) (pos (kind (get_or l j (Low 0)))) (14 + 6 * n + 10 * j + 2)
+        number_at_lem after (H ++ latency_records x n ++ t.first ++ 69 ∷ 68 ∷ []) (M ++ t.rest ++ past) (pos (kind (get_or l j (Low 0)))) (14 + 6 * n + 10 * j + 2)
             (here ∙ about_kind H (latency_records x n) K M t.rest t.first past)
             (simp length-append (omega (arith, four-length (pos P), four-length (pos n), four-length (pos (length l)), latencies-length x n, t.size)))
             (omega lin),
-        number-at after (H ++ latency_records x n ++ t.first ++ 69 ∷ 68 ∷ K) (t.rest ++ past) (pos (number (get_or l j (Low 0)))) (14 + 6 * n + 10 * j + 6)
+        number_at_lem after (H ++ latency_records x n ++ t.first ++ 69 ∷ 68 ∷ K) (t.rest ++ past) (pos (number (get_or l j (Low 0)))) (14 + 6 * n + 10 * j + 6)
             (here ∙ about_number H (latency_records x n) K M t.rest t.first past)
             (simp length-append (omega (arith, four-length (pos P), four-length (pos n), four-length (pos (length l)), latencies-length x n, t.size, four-length (pos (kind (get_or l j (Low 0)))))))
             (omega lin),
@@ -130,8 +130,8 @@ module _ (P n : ℕ) (x : ℕ → ℤ) (l : List Rule) (after past : List ℕ) (
   reads =
       record {
         period = rw first (period_back P n (length l) _ (omega (arith, small.period)));
-        latencies = rw first (latencies-back P n (length l) _ (omega (arith, small.count)));
-        entries = rw first (entries-back P n (length l) _ (omega (arith, small.entries)));
+        latencies = rw first (latencies_back P n (length l) _ (omega (arith, small.count)));
+        entries = rw first (entries_back P n (length l) _ (omega (arith, small.entries)));
         latency = reads_latency;
         entry_kind = λ j h. (reads_entry j h).0;
         entry_number = λ j h. (reads_entry j h).1;
@@ -159,7 +159,7 @@ module _ (N : Network) (g : Legal N) where
   loop_small : (l : List Rule) → IsLoop N l → length l ≤ N.registers
   loop_small [] i = absurd i.loop
   loop_small (r ∷ l) i =
-      once_short (tail N) (head N) N.registers (r ∷ l) (all_map (tail-below N (legal_joined N g)) (r ∷ l) i.exist) i.loop.1
+      once_short (tail N) (head N) N.registers (r ∷ l) (all_map (tail_below N (legal_joined N g)) (r ∷ l) i.exist) i.loop.1
 
   loop_entries : (l : List Rule) → IsLoop N l → (j : ℕ) → j < length l → (kind (get_or l j (Low 0)) ≤ 3) × (number (get_or l j (Low 0)) ≤ 2048)
   loop_entries l i j h = all_at (λ r. (kind r ≤ 3) × (number r ≤ 2048)) l (all_map rule_small l i.exist) (Low 0) j h

@@ -35,7 +35,7 @@ module _ {N : Network} {n m : ℕ} {period kind number tail head : ℤ} (t : Boo
       record {
         period_within = p.period_within;
         tail_within = p.tail_within;
-        head-within = p.head-within;
+        head_within = p.head_within;
         rule = a N en em period tail head;
       }
 
@@ -46,7 +46,7 @@ module _ {N : Network} {n m : ℕ} {period kind number tail head : ℤ} (t : Boo
 -- a number lies outside its range: it is not
 pub no_numbers : {N : Network} {period kind number tail head : ℤ} → numbers_within period tail head ≡ false → InRange N (asked period kind number tail head) → ⊥
 no_numbers e i =
-    let p = in_numbers (record { period_within = i.period_within; tail_within = i.tail_within; head-within = i.head-within }) in
+    let p = in_numbers (record { period_within = i.period_within; tail_within = i.tail_within; head_within = i.head_within }) in
     true_not_false p e
 
 -- ---- the replies

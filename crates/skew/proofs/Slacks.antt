@@ -21,7 +21,7 @@ use Rattle.paper.specs.Question.{Question, Asked, InRange, slack_asked, FileAnsw
 use Rattle.paper.specs.Outcome.{FileResult}
 use Rattle.paper.proofs.Legal.{Legal, accepted_legal, within_is, natural_is}
 use Rattle.paper.proofs.ChargeLaws.{charged_between}
-use Rattle.paper.proofs.SlackLaws.{slacks-below, slacks_from}
+use Rattle.paper.proofs.SlackLaws.{slacks_below, slacks_from}
 use Rattle.worked.specs.Slacks.{SlackCase, ends}
 use Rattle.skew.specs.Asks.{least_slack, most_slack}
 use Rattle.skew.specs.Proves.{LeavesNoRoom}
@@ -58,25 +58,25 @@ module _ (N : Network) (l : Legal N) (P : ℕ) (period : Period (pos P)) (t v : 
   slack_between (High i) e = difference (high_between i e.1) tail
 
 -- so the slack of a question that is not refused is far from the ends of 32 bits
-pub slack-within : (f : List ℕ) → Accepted f → {q : Question} → InRange (network_of f) q → (r : Rule) → Asked (network_of f) q r
+pub slack_within : (f : List ℕ) → Accepted f → {q : Question} → InRange (network_of f) q → (r : Rule) → Asked (network_of f) q r
     → Between (least_slack r) (most_slack r) (slack_asked (network_of f) q r)
-slack-within f a {q} i r k =
+slack_within f a {q} i r k =
     let p = within_is _ _ _ i.period_within in
     let n = natural_is q.period (omega lin) in
     slack_between (network_of f) (accepted_legal f a) (natural q.period) (record { from = omega lin; to = omega lin }) q.tail_latency q.head_latency
-    (within_is _ _ _ i.tail_within) (within_is _ _ _ i.head-within) r k.exists
+    (within_is _ _ _ i.tail_within) (within_is _ _ _ i.head_within) r k.exists
 
 -- of what is told: there is one rule that it can be told of
-pub told-within : (f : List ℕ) {q : Question} (d : Delay) → FileAnswers f q (reply.Slack d)
+pub told_within : (f : List ℕ) {q : Question} (d : Delay) → FileAnswers f q (reply.Slack d)
     → (r : Rule) × Asked (network_of f) q r × Between (least_slack r) (most_slack r) d.0
-told-within f d a =
+told_within f d a =
     let h = (question_answered_iff f a).0 (d.0, refl) in
     let s = a.says in
-    (s.0, s.1, rw s.2 (slack-within f h.0 h.1 s.0 s.1))
+    (s.0, s.1, rw s.2 (slack_within f h.0 h.1 s.0 s.1))
 
--- RULES 15.6: "each end is reached (15.9)": by the rows worked by hand, which `slacks-told` of `worked` proves. A row's kind, number and slack
+-- RULES 15.6: "each end is reached (15.9)": by the rows worked by hand, which `slacks_told` of `worked` proves. A row's kind, number and slack
 abbrev row_of : SlackCase → ℤ × ℤ × ℤ
-row_of c = (c.question.kind-asked, c.question.number-asked, c.slack)
+row_of c = (c.question.kind_asked, c.question.number_asked, c.slack)
 
 -- those of a rule and a slack
 abbrev as_row : Rule → ℤ → ℤ × ℤ × ℤ
@@ -99,8 +99,8 @@ ends_are = refl
 -- By the latencies of a schedule at P, a loop leaves no room exactly when it contradicts itself at the period less 1.
 pub no_room_iff : (N : Network) (P : ℕ) (x : ℕ → ℤ) → 0 < P → Schedule N P x → (l : List Rule) → IsLoop N l → LeavesNoRoom N P x l ↔ Contradicts N (P - 1) l
 no_room_iff N P x from s l i =
-    let below = slacks-below N P x from s.host l i in
-    ((λ h. below.0 h.below-setups), (λ c. record { from_zero = slacks_from N P x s l i; below-setups = below.1 c }))
+    let below = slacks_below N P x from s.host l i in
+    ((λ h. below.0 h.below_setups), (λ c. record { from_zero = slacks_from N P x s l i; below_setups = below.1 c }))
 
 -- the loop that is shown does
 shown_leaves : (N : Network) (P : ℕ) (x : ℕ → ℤ) (l : List Rule) → Answer N P x → Shown N P l → N.floor < P → LeavesNoRoom N P x l

@@ -15,8 +15,8 @@ abbrev pub question_of : Network → ℕ → (ℕ → ℤ) → Rule → Question
 question_of N P x r =
     record {
       period = pos P;
-      kind-asked = pos (kind r);
-      number-asked = pos (number r);
+      kind_asked = pos (kind r);
+      number_asked = pos (number r);
       tail_latency = x (tail N r);
       head_latency = x (head N r);
     }

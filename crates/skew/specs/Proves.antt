@@ -21,7 +21,7 @@ pub record ProvesLeast (N : Network) (P : ℕ) (l : List Rule) : Type 0 where
 -- rules: what the slacks of its rules add up to is less than the number of these. RULES 15.7: "The sum is at least 0"
 pub record LeavesNoRoom (N : Network) (P : ℕ) (x : ℕ → ℤ) (l : List Rule) : Type 0 where
   pub from_zero : pos 0 ≤ℤ total (slack_by N P x) l
-  pub below-setups : total (slack_by N P x) l <ℤ pos (setups l)
+  pub below_setups : total (slack_by N P x) l <ℤ pos (setups l)
 
 -- No period, however large, has a schedule: the loop has no setup rule, and contradicts itself at every period.
 pub record ProvesNone (N : Network) (l : List Rule) : Type 0 where

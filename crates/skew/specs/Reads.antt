@@ -7,7 +7,7 @@ use Rattle.paper.specs.Rules.{Rule, Low, kind, number}
 use Rattle.paper.specs.Network.{Network}
 use Rattle.paper.specs.Outcome.{Left}
 
--- The numbers of the records `SK`, `Lt` and `ED` (RULES 7.2 to 7.4): each is read at its place, past its record's mark of two bytes.
+-- The numbers of the records `SK`, `LT` and `ED` (RULES 7.2 to 7.4): each is read at its place, past its record's mark of two bytes.
 pub record Reads (after : List ℕ) (P n : ℕ) (x : ℕ → ℤ) (l : List Rule) : Type 0 where
   pub period : number_at after 2 ≡ pos P
   pub latencies : number_at after 6 ≡ pos n

@@ -22,21 +22,21 @@ use Rattle.paper.specs.Refusals.{faults, refusals, schedule_rows}
 use Rattle.paper.specs.Numbers.{outcome_place, reply_place}
 use Rattle.paper.specs.Outcome.{FileResult}
 use Rattle.paper.specs.Question.{Question, FileAnswers, question_refusals, question_rows}
-use Rattle.paper.proofs.TableLaws.{given_below, below-append, faults-below, schedule_below, question_below}
+use Rattle.paper.proofs.TableLaws.{given_below, below-append, faults_below, schedule_below, question_below}
 use Rattle.skew.specs.Asks.{least_slack, most_slack}
-use Rattle.skew.proofs.Slacks.{told-within}
+use Rattle.skew.proofs.Slacks.{told_within}
 use Rattle.skew_c.specs.Packed.{above_of, no_slack}
 
 -- the scheduler's place
 pub outcome_below : (f : List ℕ) {before after : List ℕ} {o : Outcome} → FileResult f before o after → outcome_place o < 2048
 outcome_below f {before} r =
-    let rows = below-append 2048 (faults f) (schedule_rows (network_of f) (length before)) (faults-below f) (schedule_below (network_of f) (length before)) in
+    let rows = below-append 2048 (faults f) (schedule_rows (network_of f) (length before)) (faults_below f) (schedule_below (network_of f) (length before)) in
     given_below 2048 (omega arith) (refusals f (length before)) rows _ _ r.given
 
 -- the question's place
 reply_below : (f : List ℕ) {q : Question} {o : Reply} → FileAnswers f q o → reply_place o < 2048
 reply_below f {q} a =
-    let rows = below-append 2048 (faults f) (question_rows (network_of f) q) (faults-below f) (question_below (network_of f) q) in
+    let rows = below-append 2048 (faults f) (question_rows (network_of f) q) (faults_below f) (question_below (network_of f) q) in
     given_below 2048 (omega arith) (question_refusals f q) rows _ _ a.given
 
 -- the ends of every kind fit 32 bits
@@ -49,21 +49,21 @@ ends_fit (High i) b = omega lin
 -- so does the question's slack
 pub slack_fits : (f : List ℕ) {q : Question} (d : Delay) → FileAnswers f q (reply.Slack d) → SFits w32 d.0
 slack_fits f d a =
-    let h = told-within f d a in
+    let h = told_within f d a in
     ends_fit h.0 h.2
 
-below-ends : (r : Rule) {z : ℤ} → Between (least_slack r) (most_slack r) z → no_slack <ℤ z
-below-ends (Setup p) b = omega lin
-below-ends (Hold p) b = omega lin
-below-ends (Low i) b = omega lin
-below-ends (High i) b = omega lin
+below_ends : (r : Rule) {z : ℤ} → Between (least_slack r) (most_slack r) z → no_slack <ℤ z
+below_ends (Setup p) b = omega lin
+below_ends (Hold p) b = omega lin
+below_ends (Low i) b = omega lin
+below_ends (High i) b = omega lin
 
 -- and what is read as the slack of a refusal lies below every slack
 pub no_slack_below : (f : List ℕ) {q : Question} (d : Delay) → FileAnswers f q (reply.Slack d) → no_slack <ℤ d.0
 no_slack_below f d a =
-    let h = told-within f d a in
-    below-ends h.0 h.2
+    let h = told_within f d a in
+    below_ends h.0 h.2
 
-pub above-below : (f : List ℕ) {q : Question} (o : Reply) → FileAnswers f q o → above_of o < 4294967296
-above-below f (reply.Slack d) a = word_small d.0 (slack_fits f d a)
-above-below f (reply.Refused x) a = omega (arith, reply_below f a)
+pub above_below : (f : List ℕ) {q : Question} (o : Reply) → FileAnswers f q o → above_of o < 4294967296
+above_below f (reply.Slack d) a = word_small d.0 (slack_fits f d a)
+above_below f (reply.Refused x) a = omega (arith, reply_below f a)

@@ -86,8 +86,8 @@ headed =
     ))
 
 -- RULES 9.4: "no number has a needless 0"
-pub decimal-first : (n : ℕ) → 0 < n → 48 < get_or (decimal n) 0 0
-decimal-first n = (headed n).1
+pub decimal_first : (n : ℕ) → 0 < n → 48 < get_or (decimal n) 0 0
+decimal_first n = (headed n).1
 
 -- every byte is a digit
 abbrev pub Digits : List ℕ → Type 0
@@ -99,8 +99,8 @@ digits_append [] d t h = (omega arith, omega arith, tt)
 digits_append (x ∷ l) d t h = (t.0, t.1, digits_append l d t.2 h)
 
 -- a number is written in digits alone
-decimal-digits : (n : ℕ) → Digits (decimal n)
-decimal-digits =
+decimal_digits : (n : ℕ) → Digits (decimal n)
+decimal_digits =
     by_digits (λ n l. Digits l)
     (λ n h. (omega arith, omega arith, tt))
     (λ n h r. digits_append (decimal (n / 10)) (n % 10) r (omega arith))
@@ -110,11 +110,11 @@ pub whole_tells : (y z : ℤ) → whole y ≡ whole z → y ≡ z
 unfolding whole
 whole_tells (pos m) (pos n) e = ap pos (decimal_tells m n e)
 whole_tells (pos m) (negsuc n) e =
-    let d : Digits (45 ∷ decimal (suc n)) = subst Digits e (decimal-digits m) in
+    let d : Digits (45 ∷ decimal (suc n)) = subst Digits e (decimal_digits m) in
     let h = d.0 in
     absurd (omega arith)
 whole_tells (negsuc m) (pos n) e =
-    let d : Digits (45 ∷ decimal (suc m)) = subst Digits (sym e) (decimal-digits n) in
+    let d : Digits (45 ∷ decimal (suc m)) = subst Digits (sym e) (decimal_digits n) in
     let h = d.0 in
     absurd (omega arith)
 whole_tells (negsuc m) (negsuc n) e =

@@ -71,9 +71,9 @@ word_back s i u room h =
     omega (arith, quarters u h)
 
 -- what is written is read back as the number that was written
-pub number-back : (s : List ℕ) (i : ℕ) (z : ℤ) → i + 4 ≤ length s → SFits w32 z → number_at (sets s i (four z)) i ≡ z
+pub number_back : (s : List ℕ) (i : ℕ) (z : ℤ) → i + 4 ≤ length s → SFits w32 z → number_at (sets s i (four z)) i ≡ z
 unfolding number_at four
-number-back s i z room h = rw (word_back s i (word_of z) room (word_small z h)) (signed_word z h)
+number_back s i z room h = rw (word_back s i (word_of z) room (word_small z h)) (signed_word z h)
 
 -- a number is read past what stands before it
 pub number_past : (a s : List ℕ) (k : ℕ) → number_at (a ++ s) (length a + k) ≡ number_at s k
@@ -81,9 +81,9 @@ unfolding number_at word_at
 number_past a s k = simp (add_assoc, get_or-append-add)
 
 -- and a number that was written is read at the front of what follows
-pub number-first : (z : ℤ) (rest : List ℕ) → SFits w32 z → number_at (four z ++ rest) 0 ≡ z
+pub number_first : (z : ℤ) (rest : List ℕ) → SFits w32 z → number_at (four z ++ rest) 0 ≡ z
 unfolding four bytes_of
-number-first z rest h = number-back (four z ++ rest) 0 z (omega arith) h
+number_first z rest h = number_back (four z ++ rest) 0 z (omega arith) h
 
 -- a number takes four bytes
 pub four-length : (z : ℤ) → length (four z) ≡ 4

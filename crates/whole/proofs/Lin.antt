@@ -163,40 +163,40 @@ no_T : (t : Bool) → (T t → ⊥) → t ≡ false
 no_T true h = absurd (h tt)
 no_T false h = refl
 
-pub le-true : (a b : ℤ) → le_z a b ≡ true → above a + below b ≤ above b + below a
-le-true a b e = le_in a b (T_of e)
+pub le_true : (a b : ℤ) → le_z a b ≡ true → above a + below b ≤ above b + below a
+le_true a b e = le_in a b (T_of e)
 
-pub true-le : (a b : ℤ) → above a + below b ≤ above b + below a → le_z a b ≡ true
-true-le a b h = of_T (le_z a b) (le_out a b h)
+pub true_le : (a b : ℤ) → above a + below b ≤ above b + below a → le_z a b ≡ true
+true_le a b h = of_T (le_z a b) (le_out a b h)
 
-pub lt-true : (a b : ℤ) → lt_z a b ≡ true → above a + below b < above b + below a
-lt-true a b e = lt_in a b (T_of e)
+pub lt_true : (a b : ℤ) → lt_z a b ≡ true → above a + below b < above b + below a
+lt_true a b e = lt_in a b (T_of e)
 
-pub true-lt : (a b : ℤ) → above a + below b < above b + below a → lt_z a b ≡ true
-true-lt a b h = of_T (lt_z a b) (lt_out a b h)
+pub true_lt : (a b : ℤ) → above a + below b < above b + below a → lt_z a b ≡ true
+true_lt a b h = of_T (lt_z a b) (lt_out a b h)
 
-pub false-le : (a b : ℤ) → above b + below a < above a + below b → le_z a b ≡ false
-false-le a b h = no_T (le_z a b) (λ t. omega (arith, le_in a b t))
+pub false_le : (a b : ℤ) → above b + below a < above a + below b → le_z a b ≡ false
+false_le a b h = no_T (le_z a b) (λ t. omega (arith, le_in a b t))
 
-pub false-lt : (a b : ℤ) → above b + below a ≤ above a + below b → lt_z a b ≡ false
-false-lt a b h = no_T (lt_z a b) (λ t. omega (arith, lt_in a b t))
+pub false_lt : (a b : ℤ) → above b + below a ≤ above a + below b → lt_z a b ≡ false
+false_lt a b h = no_T (lt_z a b) (λ t. omega (arith, lt_in a b t))
 
 -- no flag is both
 pub true_not_false : {t : Bool} → t ≡ true → t ≡ false → ⊥
 true_not_false p q = let z : ◌≡◌ {A = ℕ} 0 1 = ap (λ b. cond b 0 1) (sym p ∙ q) in omega arith
 
-pub le-false : (a b : ℤ) → le_z a b ≡ false → above b + below a < above a + below b
-le-false a b e = le_case (dec_le (above a + below b) (above b + below a))
+pub le_false : (a b : ℤ) → le_z a b ≡ false → above b + below a < above a + below b
+le_false a b e = le_case (dec_le (above a + below b) (above b + below a))
   where
     le_case : Dec (above a + below b ≤ above b + below a) → above b + below a < above a + below b
-    le_case (yes h) = absurd (true_not_false (true-le a b h) e)
+    le_case (yes h) = absurd (true_not_false (true_le a b h) e)
     le_case (no h) = omega arith
 
-pub lt-false : (a b : ℤ) → lt_z a b ≡ false → above b + below a ≤ above a + below b
-lt-false a b e = lt_case (dec_lt (above a + below b) (above b + below a))
+pub lt_false : (a b : ℤ) → lt_z a b ≡ false → above b + below a ≤ above a + below b
+lt_false a b e = lt_case (dec_lt (above a + below b) (above b + below a))
   where
     lt_case : Dec (above a + below b < above b + below a) → above b + below a ≤ above a + below b
-    lt_case (yes h) = absurd (true_not_false (true-lt a b h) e)
+    lt_case (yes h) = absurd (true_not_false (true_lt a b h) e)
     lt_case (no h) = omega arith
 
 -- ---- machine numbers: a number that fits is read back as itself; what fits lies between the ends of its width
@@ -225,4 +225,4 @@ pub ruleset read = (le_hyp_lr, le_hyp_l, le_hyp_r, le_hyp, lt_hyp_lr, lt_hyp_l, 
 
 pub ruleset shown = (le_goal_lr, le_goal_l, le_goal_r, le_goal, lt_goal_lr, lt_goal_l, lt_goal_r, lt_goal, eq_goal_lr, eq_goal_l, eq_goal_r, eq_goal)
 
-pub ruleset lin = (read, shown, le-true, le-false, lt-true, lt-false, true-le, false-le, true-lt, false-lt, fits_read, fits_goal, arith)
+pub ruleset lin = (read, shown, le_true, le_false, lt_true, lt_false, true_le, false_le, true_lt, false_lt, fits_read, fits_goal, arith)

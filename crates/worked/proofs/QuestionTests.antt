@@ -41,22 +41,22 @@ rule_back (High i) = refl
 
 module _ (N : Network) (q : Question) where
   abbrev pub named : Rule
-  named = rule_of (natural q.kind-asked) (natural q.number-asked)
+  named = rule_of (natural q.kind_asked) (natural q.number_asked)
 
   -- what `Asked` says of a rule, one statement beside the other
   abbrev Names : Rule → Type 0
-  Names r = (q.kind-asked ≡ pos (kind r)) × ((q.number-asked ≡ pos (number r)) × Exists N r)
+  Names r = (q.kind_asked ≡ pos (kind r)) × ((q.number_asked ≡ pos (number r)) × Exists N r)
 
   -- a rule as asked is the one that is named, so that it is enough to ask this of that one
-  pub asked-named : ((r : Rule) × Asked N q r) → Names named
-  asked-named a =
+  pub asked_named : ((r : Rule) × Asked N q r) → Names named
+  asked_named a =
       let k = a.1.of_kind in
       let n = a.1.of_number in
       let e : named ≡ a.0 = rw (k, n) (rule_back a.0) in
       rw e (k, (n, a.1.exists))
 
-  pub named-asked : Names named → Asked N q named
-  named-asked h = record { of_kind = h.0; of_number = h.1.0; exists = h.1.1 }
+  pub named_asked : Names named → Asked N q named
+  named_asked h = record { of_kind = h.0; of_number = h.1.0; exists = h.1.1 }
 
   -- ---- in range, or not
 
@@ -79,20 +79,20 @@ module _ (N : Network) (q : Question) where
       record {
         period_within = h.0;
         tail_within = h.1.0;
-        head-within = h.1.1.0;
-        rule = (named, named-asked h.1.1.1);
+        head_within = h.1.1.0;
+        rule = (named, named_asked h.1.1.1);
       }
 
   pub of_range : InRange N q → Ranges
-  of_range i = (i.period_within, (i.tail_within, (i.head-within, asked-named i.rule)))
+  of_range i = (i.period_within, (i.tail_within, (i.head_within, asked_named i.rule)))
 
   abbrev pub ranges : Test Ranges
   ranges =
       pair (is_true period_in)
       (pair (is_true tail_in)
       (pair (is_true head_in)
-      (pair (same_ℤ q.kind-asked (pos (kind named)))
-      (pair (same_ℤ q.number-asked (pos (number named))) (exists_test N named)))))
+      (pair (same_ℤ q.kind_asked (pos (kind named)))
+      (pair (same_ℤ q.number_asked (pos (number named))) (exists_test N named)))))
 
   abbrev pub in_range : Test (InRange N q)
   in_range = via range_of ranges
@@ -103,8 +103,8 @@ module _ (N : Network) (q : Question) where
       (not_both (not_true period_in)
       (not_both (not_true tail_in)
       (not_both (not_true head_in)
-      (not_both (not_same_ℤ q.kind-asked (pos (kind named)))
-      (not_both (not_same_ℤ q.number-asked (pos (number named))) (no_rule N named))))))
+      (not_both (not_same_ℤ q.kind_asked (pos (kind named)))
+      (not_both (not_same_ℤ q.number_asked (pos (number named))) (no_rule N named))))))
 
 -- ---- the reply, of a file
 
@@ -132,7 +132,7 @@ module _ (f : List ℕ) (q : Question) where
     answers h =
         record {
           given = given_0 h.0 (range_of (network_of f) q h.1.0);
-          says = (named (network_of f) q, named-asked (network_of f) q h.1.0.1.1.1, h.1.1);
+          says = (named (network_of f) q, named_asked (network_of f) q h.1.0.1.1.1, h.1.1);
         }
 
     abbrev pub answers_test : Test (FileAnswers f q (with_slack z))

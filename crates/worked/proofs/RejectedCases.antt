@@ -22,37 +22,37 @@ all_joined (g ∷ l) a = all_both Rejected g (joined l) a.0 (all_joined l a.1)
 
 -- ---- files
 
-heads-refused : All Rejected heads
+heads_refused : All Rejected heads
 unfolding file_of network_of headed counted sized ranged register_ok path_ok marked within windowed number_at word_at signed_of four bytes_of word_of
-heads-refused = (every Rejected rejected_test heads).shows refl
+heads_refused = (every Rejected rejected_test heads).shows refl
 
-counts-refused : All Rejected counts
+counts_refused : All Rejected counts
 unfolding file_of network_of headed counted sized ranged register_ok path_ok marked within windowed number_at word_at signed_of four bytes_of word_of
-counts-refused = (every Rejected rejected_test counts).shows refl
+counts_refused = (every Rejected rejected_test counts).shows refl
 
-lengths-refused : All Rejected lengths
+lengths_refused : All Rejected lengths
 unfolding file_of network_of headed counted sized ranged register_ok path_ok marked within windowed number_at word_at signed_of four bytes_of word_of
-lengths-refused = (every Rejected rejected_test lengths).shows refl
+lengths_refused = (every Rejected rejected_test lengths).shows refl
 
-ranges-refused : All Rejected ranges
+ranges_refused : All Rejected ranges
 unfolding file_of network_of headed counted sized ranged register_ok path_ok marked within windowed number_at word_at signed_of four bytes_of word_of
-ranges-refused = (every Rejected rejected_test ranges).shows refl
+ranges_refused = (every Rejected rejected_test ranges).shows refl
 
-register_rows-refused : All Rejected register_rows
+register_rows_refused : All Rejected register_rows
 unfolding file_of network_of headed counted sized ranged register_ok path_ok marked within windowed number_at word_at signed_of four bytes_of word_of
-register_rows-refused = (every Rejected rejected_test register_rows).shows refl
+register_rows_refused = (every Rejected rejected_test register_rows).shows refl
 
-path_rows-refused : All Rejected path_rows
+path_rows_refused : All Rejected path_rows
 unfolding file_of network_of headed counted sized ranged register_ok path_ok marked within windowed number_at word_at signed_of four bytes_of word_of
-path_rows-refused = (every Rejected rejected_test path_rows).shows refl
+path_rows_refused = (every Rejected rejected_test path_rows).shows refl
 
-several-refused : All Rejected several
+several_refused : All Rejected several
 unfolding file_of network_of headed counted sized ranged register_ok path_ok marked within windowed number_at word_at signed_of four bytes_of word_of
-several-refused = (every Rejected rejected_test several).shows refl
+several_refused = (every Rejected rejected_test several).shows refl
 
-rooms-refused : All Rejected rooms
+rooms_refused : All Rejected rooms
 unfolding file_of network_of number_at word_at signed_of four bytes_of word_of
-rooms-refused = (
+rooms_refused = (
   (short_test case_a row_a 61).shows refl,
   (
     (short_test case_a4 row_a4 61).shows refl,
@@ -62,26 +62,26 @@ rooms-refused = (
 
 -- ---- rules, loops and answers
 
-rules-refused : All Rejected rules
+rules_refused : All Rejected rules
 unfolding file_of network_of number_at word_at signed_of four bytes_of word_of
-rules-refused = (every Rejected rejected_test rules).shows refl
+rules_refused = (every Rejected rejected_test rules).shows refl
 
-loops-refused : All Rejected loops
+loops_refused : All Rejected loops
 unfolding file_of network_of number_at word_at signed_of four bytes_of word_of
-loops-refused = (every Rejected rejected_test loops).shows refl
+loops_refused = (every Rejected rejected_test loops).shows refl
 
-shows-refused : All Rejected shows
+shows_refused : All Rejected shows
 unfolding file_of network_of number_at word_at signed_of four bytes_of word_of
-shows-refused = (every Rejected rejected_test shows).shows refl
+shows_refused = (every Rejected rejected_test shows).shows refl
 
-schedules-refused : All Rejected schedules
+schedules_refused : All Rejected schedules
 unfolding file_of network_of number_at word_at signed_of four bytes_of word_of
-schedules-refused = (every Rejected rejected_test schedules).shows refl
+schedules_refused = (every Rejected rejected_test schedules).shows refl
 
 -- A loop for 8, the answer for 10, and the ends of the range; then a lower latency of register 2, and of register 1.
-answers-refused : All Rejected answers
+answers_refused : All Rejected answers
 unfolding file_of network_of number_at word_at signed_of four bytes_of word_of
-answers-refused = (
+answers_refused = (
   (by_that_loop (network_of (file_of A)) 8 (Setup 0 ∷ Hold 0 ∷ [])).shows refl,
   (
     (by_shorter (network_of (file_of A)) 10 9 (pos 0 ∷ pos 1 ∷ neg_ℤ (pos 1) ∷ [])).shows refl,
@@ -105,10 +105,10 @@ pub rejected : All Rejected rejections
 unfolding rejections
 rejected =
     all_joined groups (
-      heads-refused,
+      heads_refused,
       (
-        counts-refused,
-        (lengths-refused, (ranges-refused, (register_rows-refused, (path_rows-refused, (several-refused, (rooms-refused, (rules-refused, (loops-refused, (shows-refused, (schedules-refused, (answers-refused, tt))))))))))),
+        counts_refused,
+        (lengths_refused, (ranges_refused, (register_rows_refused, (path_rows_refused, (several_refused, (rooms_refused, (rules_refused, (loops_refused, (shows_refused, (schedules_refused, (answers_refused, tt))))))))))),
       ),
     )
 

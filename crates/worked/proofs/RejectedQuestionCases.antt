@@ -23,25 +23,25 @@ row_test (bound outside inside) =
     (via (given_0 file_a inside row_a.accepted) (in_range (network_of file_a) inside))
 row_test (taken question) = via (given_0 file_a question row_a.accepted) (in_range (network_of file_a) question)
 
-periods-refused : All QuestionRejected periods
+periods_refused : All QuestionRejected periods
 unfolding file_of network_of within number_at word_at signed_of four bytes_of word_of
-periods-refused = (every QuestionRejected row_test periods).shows refl
+periods_refused = (every QuestionRejected row_test periods).shows refl
 
-latencies-refused : All QuestionRejected latencies
+latencies_refused : All QuestionRejected latencies
 unfolding file_of network_of within number_at word_at signed_of four bytes_of word_of
-latencies-refused = (every QuestionRejected row_test latencies).shows refl
+latencies_refused = (every QuestionRejected row_test latencies).shows refl
 
-kinds-refused : All QuestionRejected kinds
+kinds_refused : All QuestionRejected kinds
 unfolding file_of network_of within number_at word_at signed_of four bytes_of word_of
-kinds-refused = (every QuestionRejected row_test kinds).shows refl
+kinds_refused = (every QuestionRejected row_test kinds).shows refl
 
-numbers-refused : All QuestionRejected numbers
+numbers_refused : All QuestionRejected numbers
 unfolding file_of network_of within number_at word_at signed_of four bytes_of word_of
-numbers-refused = (every QuestionRejected row_test numbers).shows refl
+numbers_refused = (every QuestionRejected row_test numbers).shows refl
 
-unread-refused : All QuestionRejected unread
+unread_refused : All QuestionRejected unread
 unfolding file_of network_of within number_at word_at signed_of four bytes_of word_of
-unread-refused = (every QuestionRejected row_test unread).shows refl
+unread_refused = (every QuestionRejected row_test unread).shows refl
 
 unbounded_taken : All QuestionRejected unbounded
 unfolding file_of network_of within number_at word_at signed_of four bytes_of word_of
@@ -53,10 +53,10 @@ unbounded_taken = (every QuestionRejected row_test unbounded).shows refl
 pub questions_refused : All QuestionRejected question_rejections
 unfolding question_rejections
 questions_refused =
-    all_both QuestionRejected periods (latencies ++ kinds ++ numbers ++ unread ++ unbounded) periods-refused
-    (all_both QuestionRejected latencies (kinds ++ numbers ++ unread ++ unbounded) latencies-refused
-    (all_both QuestionRejected kinds (numbers ++ unread ++ unbounded) kinds-refused
-    (all_both QuestionRejected numbers (unread ++ unbounded) numbers-refused (all_both QuestionRejected unread unbounded unread-refused unbounded_taken))))
+    all_both QuestionRejected periods (latencies ++ kinds ++ numbers ++ unread ++ unbounded) periods_refused
+    (all_both QuestionRejected latencies (kinds ++ numbers ++ unread ++ unbounded) latencies_refused
+    (all_both QuestionRejected kinds (numbers ++ unread ++ unbounded) kinds_refused
+    (all_both QuestionRejected numbers (unread ++ unbounded) numbers_refused (all_both QuestionRejected unread unbounded unread_refused unbounded_taken))))
 
 -- and no row is left out
 thirty_two : length question_rejections ≡ 32

@@ -52,45 +52,45 @@ row_test (wrong w q outside inside) =
 row_test (untold w q) = via (untold_by (file_of w) q) (pair (accepted_test (file_of w)) (not_in_range (network_of (file_of w)) q))
 row_test (unread n p f) = via (unread_by f n p) (pair (less 0 n) (refused_test f n p))
 
-errors-refused : All SlackRejected errors
+errors_refused : All SlackRejected errors
 unfolding file_of network_of headed counted sized ranged register_ok path_ok marked within windowed number_at word_at signed_of four bytes_of word_of
-errors-refused = (every SlackRejected row_test errors).shows refl
+errors_refused = (every SlackRejected row_test errors).shows refl
 
-other_kinds-refused : All SlackRejected other_kinds
+other_kinds_refused : All SlackRejected other_kinds
 unfolding file_of network_of headed counted sized ranged register_ok path_ok marked within windowed number_at word_at signed_of four bytes_of word_of
-other_kinds-refused = (every SlackRejected row_test other_kinds).shows refl
+other_kinds_refused = (every SlackRejected row_test other_kinds).shows refl
 
-of_b-refused : All SlackRejected of_b
+of_b_refused : All SlackRejected of_b
 unfolding file_of network_of headed counted sized ranged register_ok path_ok marked within windowed number_at word_at signed_of four bytes_of word_of
-of_b-refused = (every SlackRejected row_test of_b).shows refl
+of_b_refused = (every SlackRejected row_test of_b).shows refl
 
-beside_ends-refused : All SlackRejected beside_ends
+beside_ends_refused : All SlackRejected beside_ends
 unfolding file_of network_of headed counted sized ranged register_ok path_ok marked within windowed number_at word_at signed_of four bytes_of word_of
-beside_ends-refused = (every SlackRejected row_test beside_ends).shows refl
+beside_ends_refused = (every SlackRejected row_test beside_ends).shows refl
 
-no_rules-refused : All SlackRejected no_rules
+no_rules_refused : All SlackRejected no_rules
 unfolding file_of network_of headed counted sized ranged register_ok path_ok marked within windowed number_at word_at signed_of four bytes_of word_of
-no_rules-refused = (every SlackRejected row_test no_rules).shows refl
+no_rules_refused = (every SlackRejected row_test no_rules).shows refl
 
-out_of_range-refused : All SlackRejected out_of_range
+out_of_range_refused : All SlackRejected out_of_range
 unfolding file_of network_of headed counted sized ranged register_ok path_ok marked within windowed number_at word_at signed_of four bytes_of word_of
-out_of_range-refused = (every SlackRejected row_test out_of_range).shows refl
+out_of_range_refused = (every SlackRejected row_test out_of_range).shows refl
 
-files-refused : All SlackRejected files
+files_refused : All SlackRejected files
 unfolding file_of network_of headed counted sized ranged register_ok path_ok marked within windowed number_at word_at signed_of four bytes_of word_of
-files-refused = (every SlackRejected row_test files).shows refl
+files_refused = (every SlackRejected row_test files).shows refl
 
 -- ---- the table
 
 -- RULES 15.11: "what must not be answered: the slacks of 15.10, and a slack where the question is refused", under one statement
-pub slacks-refused : All SlackRejected slack_rejections
+pub slacks_refused : All SlackRejected slack_rejections
 unfolding slack_rejections
-slacks-refused =
-    all_both SlackRejected errors (other_kinds ++ of_b ++ beside_ends ++ no_rules ++ out_of_range ++ files) errors-refused
-    (all_both SlackRejected other_kinds (of_b ++ beside_ends ++ no_rules ++ out_of_range ++ files) other_kinds-refused
-    (all_both SlackRejected of_b (beside_ends ++ no_rules ++ out_of_range ++ files) of_b-refused
-    (all_both SlackRejected beside_ends (no_rules ++ out_of_range ++ files) beside_ends-refused
-    (all_both SlackRejected no_rules (out_of_range ++ files) no_rules-refused (all_both SlackRejected out_of_range files out_of_range-refused files-refused)))))
+slacks_refused =
+    all_both SlackRejected errors (other_kinds ++ of_b ++ beside_ends ++ no_rules ++ out_of_range ++ files) errors_refused
+    (all_both SlackRejected other_kinds (of_b ++ beside_ends ++ no_rules ++ out_of_range ++ files) other_kinds_refused
+    (all_both SlackRejected of_b (beside_ends ++ no_rules ++ out_of_range ++ files) of_b_refused
+    (all_both SlackRejected beside_ends (no_rules ++ out_of_range ++ files) beside_ends_refused
+    (all_both SlackRejected no_rules (out_of_range ++ files) no_rules_refused (all_both SlackRejected out_of_range files out_of_range_refused files_refused)))))
 
 -- and no row is left out
 sixty_one : length slack_rejections ≡ 61

@@ -71,30 +71,30 @@ nine = refl
 
 -- ---- the slacks
 
-self_at_answers-told : All WorkedSlack self_at_answers
+self_at_answers_told : All WorkedSlack self_at_answers
 unfolding file_of network_of headed counted sized ranged register_ok path_ok marked within windowed number_at word_at signed_of four bytes_of word_of
-self_at_answers-told = (every WorkedSlack tells_test self_at_answers).shows refl
+self_at_answers_told = (every WorkedSlack tells_test self_at_answers).shows refl
 
-self_elsewhere-told : All WorkedSlack self_elsewhere
+self_elsewhere_told : All WorkedSlack self_elsewhere
 unfolding file_of network_of headed counted sized ranged register_ok path_ok marked within windowed number_at word_at signed_of four bytes_of word_of
-self_elsewhere-told = (every WorkedSlack tells_test self_elsewhere).shows refl
+self_elsewhere_told = (every WorkedSlack tells_test self_elsewhere).shows refl
 
-self_differing-told : All WorkedSlack self_differing
+self_differing_told : All WorkedSlack self_differing
 unfolding file_of network_of headed counted sized ranged register_ok path_ok marked within windowed number_at word_at signed_of four bytes_of word_of
-self_differing-told = (every WorkedSlack tells_test self_differing).shows refl
+self_differing_told = (every WorkedSlack tells_test self_differing).shows refl
 
 pub requested_slacks : All WorkedSlack request_slacks
 unfolding request_slacks
 requested_slacks =
-    all_both WorkedSlack self_at_answers (self_elsewhere ++ self_differing) self_at_answers-told
-    (all_both WorkedSlack self_elsewhere self_differing self_elsewhere-told self_differing-told)
+    all_both WorkedSlack self_at_answers (self_elsewhere ++ self_differing) self_at_answers_told
+    (all_both WorkedSlack self_elsewhere self_differing self_elsewhere_told self_differing_told)
 
 nineteen : length request_slacks ≡ 19
 unfolding request_slacks
 nineteen = refl
 
 -- the questions of the first group are those at the answers
-at-answers : map (λ c. (c.network, c.question)) self_at_answers
+at_answers_lem : map (λ c. (c.network, c.question)) self_at_answers
     ≡ map (at_answer case_t) (Setup 0 ∷ Hold 0 ∷ [])
     ++ map (at_answer case_t3) (Hold 0 ∷ [])
     ++ map (at_answer case_t4) (Setup 0 ∷ Hold 0 ∷ [])
@@ -102,22 +102,22 @@ at-answers : map (λ c. (c.network, c.question)) self_at_answers
     ++ map (at_answer case_t8) (Hold 0 ∷ [])
     ++ map (at_answer case_t9) (Hold 0 ∷ Hold 1 ∷ [])
 unfolding file_of network_of number_at word_at signed_of four bytes_of word_of
-at-answers = refl
+at_answers_lem = refl
 
 -- ---- what must be refused
 
-self_no_loops-refused : All Rejected self_no_loops
+self_no_loops_refused : All Rejected self_no_loops
 unfolding file_of network_of number_at word_at signed_of four bytes_of word_of
-self_no_loops-refused = (every Rejected rejected_test self_no_loops).shows refl
+self_no_loops_refused = (every Rejected rejected_test self_no_loops).shows refl
 
-self_until-refused : All Rejected self_until
+self_until_refused : All Rejected self_until
 unfolding file_of network_of number_at word_at signed_of four bytes_of word_of
-self_until-refused = (every Rejected rejected_test self_until).shows refl
+self_until_refused = (every Rejected rejected_test self_until).shows refl
 
 -- T's loop for 7 and 9, its answer for 11, T6's loop for 7; then T's lower latency of register 1
-self_setups-refused : All Rejected self_setups
+self_setups_refused : All Rejected self_setups
 unfolding file_of network_of number_at word_at signed_of four bytes_of word_of
-self_setups-refused = (
+self_setups_refused = (
   (by_that_loop (network_of (file_of T)) 7 (Setup 0 ∷ [])).shows refl,
   (
     (by_that_loop (network_of (file_of T)) 9 (Setup 0 ∷ [])).shows refl,
@@ -132,9 +132,9 @@ self_setups-refused = (
 )
 
 -- each by the loop of its network in RULES 16.10
-other_holds-refused : All Rejected other_holds
+other_holds_refused : All Rejected other_holds
 unfolding file_of network_of number_at word_at signed_of four bytes_of word_of
-other_holds-refused = (
+other_holds_refused = (
   (by_that_loop (network_of (file_of T2)) 10 (Hold 1 ∷ Hold 0 ∷ [])).shows refl,
   (
     (by_that_loop (network_of (file_of T3)) 12 (Setup 0 ∷ Hold 0 ∷ [])).shows refl,
@@ -148,22 +148,22 @@ other_holds-refused = (
   ),
 )
 
-other_missed-refused : All Rejected other_missed
+other_missed_refused : All Rejected other_missed
 unfolding file_of network_of number_at word_at signed_of four bytes_of word_of
-other_missed-refused = (every Rejected rejected_test other_missed).shows refl
+other_missed_refused = (every Rejected rejected_test other_missed).shows refl
 
-self_holds-refused : All Rejected self_holds
+self_holds_refused : All Rejected self_holds
 unfolding file_of network_of number_at word_at signed_of four bytes_of word_of
-self_holds-refused = ((by_that_loop (network_of (file_of T5)) 10 (Hold 0 ∷ [])).shows refl, tt)
+self_holds_refused = ((by_that_loop (network_of (file_of T5)) 10 (Hold 0 ∷ [])).shows refl, tt)
 
 pub requested_refused : All Rejected request_rejections
 unfolding request_rejections
 requested_refused =
-    all_both Rejected self_no_loops (self_until ++ self_setups ++ other_holds ++ other_missed ++ self_holds) self_no_loops-refused
-    (all_both Rejected self_until (self_setups ++ other_holds ++ other_missed ++ self_holds) self_until-refused
-    (all_both Rejected self_setups (other_holds ++ other_missed ++ self_holds) self_setups-refused
-    (all_both Rejected other_holds (other_missed ++ self_holds) other_holds-refused
-    (all_both Rejected other_missed self_holds other_missed-refused self_holds-refused))))
+    all_both Rejected self_no_loops (self_until ++ self_setups ++ other_holds ++ other_missed ++ self_holds) self_no_loops_refused
+    (all_both Rejected self_until (self_setups ++ other_holds ++ other_missed ++ self_holds) self_until_refused
+    (all_both Rejected self_setups (other_holds ++ other_missed ++ self_holds) self_setups_refused
+    (all_both Rejected other_holds (other_missed ++ self_holds) other_holds_refused
+    (all_both Rejected other_missed self_holds other_missed_refused self_holds_refused))))
 
 twenty_five : length request_rejections ≡ 25
 unfolding request_rejections
@@ -171,23 +171,23 @@ twenty_five = refl
 
 -- ---- slacks that must not be told
 
-self_charged-refused : All SlackRejected self_charged
+self_charged_refused : All SlackRejected self_charged
 unfolding file_of network_of headed counted sized ranged register_ok path_ok marked within windowed number_at word_at signed_of four bytes_of word_of
-self_charged-refused = (every SlackRejected row_test self_charged).shows refl
+self_charged_refused = (every SlackRejected row_test self_charged).shows refl
 
-setup_uncharged-refused : All SlackRejected setup_uncharged
+setup_uncharged_refused : All SlackRejected setup_uncharged
 unfolding file_of network_of headed counted sized ranged register_ok path_ok marked within windowed number_at word_at signed_of four bytes_of word_of
-setup_uncharged-refused = (every SlackRejected row_test setup_uncharged).shows refl
+setup_uncharged_refused = (every SlackRejected row_test setup_uncharged).shows refl
 
-others_uncharged-refused : All SlackRejected others_uncharged
+others_uncharged_refused : All SlackRejected others_uncharged
 unfolding file_of network_of headed counted sized ranged register_ok path_ok marked within windowed number_at word_at signed_of four bytes_of word_of
-others_uncharged-refused = (every SlackRejected row_test others_uncharged).shows refl
+others_uncharged_refused = (every SlackRejected row_test others_uncharged).shows refl
 
 pub requested_slacks_refused : All SlackRejected request_slack_rejections
 unfolding request_slack_rejections
 requested_slacks_refused =
-    all_both SlackRejected self_charged (setup_uncharged ++ others_uncharged) self_charged-refused
-    (all_both SlackRejected setup_uncharged others_uncharged setup_uncharged-refused others_uncharged-refused)
+    all_both SlackRejected self_charged (setup_uncharged ++ others_uncharged) self_charged_refused
+    (all_both SlackRejected setup_uncharged others_uncharged setup_uncharged_refused others_uncharged_refused)
 
 seventeen : length request_slack_rejections ≡ 17
 unfolding request_slack_rejections

@@ -25,30 +25,30 @@ tells c a = record { allowed = a; only = λ o b. one_reply (file_of c.network) c
 abbrev pub tells_test : (c : SlackCase) → Test (WorkedSlack c)
 tells_test c = via (tells c) (answers_test (file_of c.network) c.question c.slack)
 
-at_answers-told : All WorkedSlack at_answers
+at_answers_told : All WorkedSlack at_answers
 unfolding file_of network_of headed counted sized ranged register_ok path_ok marked within windowed number_at word_at signed_of four bytes_of word_of
-at_answers-told = (every WorkedSlack tells_test at_answers).shows refl
+at_answers_told = (every WorkedSlack tells_test at_answers).shows refl
 
-broken-told : All WorkedSlack broken
+broken_told : All WorkedSlack broken
 unfolding file_of network_of headed counted sized ranged register_ok path_ok marked within windowed number_at word_at signed_of four bytes_of word_of
-broken-told = (every WorkedSlack tells_test broken).shows refl
+broken_told = (every WorkedSlack tells_test broken).shows refl
 
-ends-told : All WorkedSlack ends
+ends_told : All WorkedSlack ends
 unfolding file_of network_of headed counted sized ranged register_ok path_ok marked within windowed number_at word_at signed_of four bytes_of word_of
-ends-told = (every WorkedSlack tells_test ends).shows refl
+ends_told = (every WorkedSlack tells_test ends).shows refl
 
-to_itself-told : All WorkedSlack to_itself
+to_itself_told : All WorkedSlack to_itself
 unfolding file_of network_of headed counted sized ranged register_ok path_ok marked within windowed number_at word_at signed_of four bytes_of word_of
-to_itself-told = (every WorkedSlack tells_test to_itself).shows refl
+to_itself_told = (every WorkedSlack tells_test to_itself).shows refl
 
 -- ---- the table
 
 -- RULES 15.11: "The rows of 15.9 stand in a table, and so does what must not be answered .. One statement is proved of the whole of each."
-pub slacks-told : All WorkedSlack slacks
+pub slacks_told : All WorkedSlack slacks
 unfolding slacks
-slacks-told =
-    all_both WorkedSlack at_answers (broken ++ ends ++ to_itself) at_answers-told
-    (all_both WorkedSlack broken (ends ++ to_itself) broken-told (all_both WorkedSlack ends to_itself ends-told to_itself-told))
+slacks_told =
+    all_both WorkedSlack at_answers (broken ++ ends ++ to_itself) at_answers_told
+    (all_both WorkedSlack broken (ends ++ to_itself) broken_told (all_both WorkedSlack ends to_itself ends_told to_itself_told))
 
 -- and no row is left out
 twenty_seven : length slacks ≡ 27

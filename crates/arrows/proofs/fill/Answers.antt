@@ -19,7 +19,7 @@ use Rattle.network.proofs.Ranges.{RegisterRanges, PathRanges, register_ranges, p
 use Rattle.rules.proofs.Ranges.{small_ends}
 use Rattle.arrows.proofs.Puts.{put_is, wide_writable}
 use Rattle.arrows.proofs.Laid.{legal_few}
-use Rattle.arrows.proofs.Fills.{paths-put, paths_all}
+use Rattle.arrows.proofs.Fills.{paths_put, paths_all}
 use Rattle.arrows.proofs.Same.{same_put}
 use Rattle.arrows.proofs.fill.Goals as goal
 
@@ -110,7 +110,7 @@ loop-p-preserved c =
     let inv = c.loop-p.invariant in
     record {
       paths =
-          paths-put N _ _ _ c.requires.source.header.registers c.requires.source.header.paths c.loop-p-test.true inv.paths road.from road.to
+          paths_put N _ _ _ c.requires.source.header.registers c.requires.source.header.paths c.loop-p-test.true inv.paths road.from road.to
           c.hold-e.ensures c.setup-g.ensures
           (put_is c.both.ensures)
           (to_z-of_z hold_fits ∙ c.hold-hold.ensures _ _ road receiver)

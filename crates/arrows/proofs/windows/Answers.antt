@@ -11,7 +11,7 @@ use Rattle.loops.specs.Layout.{place_of}
 use Rattle.network.proofs.Ranges.{RegisterRanges, register_ranges}
 use Rattle.rules.proofs.Ranges.{small_register}
 use Rattle.arrows.proofs.Puts.{wide_writable}
-use Rattle.arrows.proofs.Fills.{windows-none}
+use Rattle.arrows.proofs.Fills.{windows_none}
 use Rattle.arrows.proofs.Same.{same_start}
 use Rattle.arrows.proofs.windows.Goals as goal
 
@@ -22,7 +22,7 @@ loop-i-init c =
     let legal : Legal N = accepted_legal _ c.requires.source.accepted in
     let l = legal.registers_from in
     let e = c.requires.source.header.registers in
-    record { windows = windows-none _ _ _ c.requires.wide; to = omega arith; same = same_start _ _ }
+    record { windows = windows_none _ _ _ c.requires.wide; to = omega arith; same = same_start _ _ }
 
 pub low-low-requires : goal.low-low-requires
 low-low-requires c =

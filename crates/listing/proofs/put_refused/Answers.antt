@@ -8,7 +8,7 @@ use Rattle.text.specs.Decimal.{decimal}
 use Rattle.listing.specs.Text.{refused_word}
 use Rattle.text.proofs.Decimal.{decimal_few}
 use Rattle.text.proofs.Runs.{and_then, and_byte, named, long}
-use Rattle.listing.proofs.Lines.{refused-line, counted_place}
+use Rattle.listing.proofs.Lines.{refused_line_lem, counted_place}
 use Rattle.listing.proofs.put_refused.Goals as goal
 use Rattle.listing.proofs.put_refused.Goals.{After-put_count-end}
 
@@ -46,6 +46,6 @@ pub returns : goal.returns
 returns c =
     let w = and_then c.put_count-next.ensures c.put_count-end.ensures in
     record {
-      written = named (and_byte w 10) (refused-line c.args.number c.args.place);
+      written = named (and_byte w 10) (refused_line_lem c.args.number c.args.place);
       by = omega (arith, second c.before.before);
     }

@@ -1,13 +1,13 @@
 -- `skew_c::skew_question` meets its contract: the number, and what stands above it, are those of the reply that `skew` returned, and they fit.
 use native.Mathlib.Omega.{arith}
 use Rattle.skew.proofs.Limits.{asked_read}
-use Rattle.skew_c.proofs.Places.{above-below}
+use Rattle.skew_c.proofs.Places.{above_below}
 use Rattle.skew_c.proofs.Unpacked.{replied}
 use Rattle.skew_c.proofs.skew_question.Goals as goal
 
 pub pack-requires : goal.pack-requires
 pack-requires c =
-    let h = above-below _ c.question-o.result c.question-o.ensures in
+    let h = above_below _ c.question-o.result c.question-o.ensures in
     let a = c.above.ensures in
     omega arith
 

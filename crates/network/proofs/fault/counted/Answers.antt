@@ -1,7 +1,7 @@
 -- `network::fault::counted` meets its contract: the two counts, each within its range.
-use Rattle.network.proofs.Joined.{counted-joined}
+use Rattle.network.proofs.Joined.{counted_joined}
 use Rattle.network.proofs.fault.counted.Goals as goal
 
 pub returns : goal.returns
 returns c =
-    counted-joined _ c.within_at.ensures c.within_at-2.ensures c.both.ensures
+    counted_joined _ c.within_at.ensures c.within_at-2.ensures c.both.ensures

@@ -1,11 +1,11 @@
 -- `skew::question::in_range` meets its contract: the three tests, joined.
-use Rattle.skew.proofs.Limits.{numbers-joined}
+use Rattle.skew.proofs.Limits.{numbers_joined}
 use Rattle.skew.proofs.question.in_range.Goals as goal
 
 -- ---- the answers
 pub returns : goal.returns
 returns c =
-    numbers-joined c.ranges.period c.ranges.tail c.ranges.head
+    numbers_joined c.ranges.period c.ranges.tail c.ranges.head
     c.within.ensures
     c.within-2.ensures
     c.within-3.ensures

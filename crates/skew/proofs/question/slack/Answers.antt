@@ -12,7 +12,7 @@ use Rattle.paper.specs.Question.{Question, asked, Asked}
 use Rattle.network.proofs.Ranges.{PathRanges, path_ranges, register_ranges}
 use Rattle.rules.proofs.Ranges.{small_register, small_ends}
 use Rattle.skew.proofs.Limits.{read, period_is, tail_small, head_small, amount_is_small, period_fits}
-use Rattle.skew.proofs.Named.{matched, cast_is, named, named-last, asked-slack}
+use Rattle.skew.proofs.Named.{matched, cast_is, named, named_last, asked_slack}
 use Rattle.skew.proofs.question.slack.Goals as goal
 
 pub register-receiver-requires : goal.register-receiver-requires
@@ -149,7 +149,7 @@ high-requires c =
     let at : Question = asked c.args.period.0 c.args.kind c.args.number c.args.tail.0 c.args.head.0 in
     let is_high : Asked net at (High k) =
     let n = c.in_default.in_default-own.rest in
-    named c.requires (High k) (named-last c.requires n.0.0.1 n.0.1 n.1) (cast_is c.ranges.number) in
+    named c.requires (High k) (named_last c.requires n.0.0.1 n.0.1 n.1) (cast_is c.ranges.number) in
     small_register (register_ranges c.args.file.now k _ c.requires.accepted is_high.exists.1 c.register-in_default.ensures)
 
 pub slack-requires-in_default : goal.slack-requires-in_default
@@ -159,7 +159,7 @@ slack-requires-in_default c =
     let at : Question = asked c.args.period.0 c.args.kind c.args.number c.args.tail.0 c.args.head.0 in
     let is_high : Asked net at (High k) =
     let n = c.in_default.in_default-own.rest in
-    named c.requires (High k) (named-last c.requires n.0.0.1 n.0.1 n.1) (cast_is c.ranges.number) in
+    named c.requires (High k) (named_last c.requires n.0.0.1 n.0.1 n.1) (cast_is c.ranges.number) in
     let P : ℕ = natural c.args.period.0 in
     let high_amount : c.high.result.0 ≡ amount net P (High k) = c.high.ensures net k c.register-in_default.ensures in
     let p = c.requires in
@@ -184,7 +184,7 @@ returns-in-0 c =
     c.setup.ensures net k road (rw road.to at c.register-receiver.ensures) in
     let setup_amount : c.setup_at-amount.result.0 ≡ amount net P (Setup k) =
     c.setup_at-amount.ensures ∙ ap₂ ◌-ℤ◌ setup_base (period_is c.requires.in_range.period_within) in
-    asked-slack (Setup k) is_setup setup_amount c.slack.ensures
+    asked_slack (Setup k) is_setup setup_amount c.slack.ensures
 
 pub returns-in-1 : goal.returns-in-1
 returns-in-1 c =
@@ -197,4 +197,4 @@ returns-in-1 c =
     let hold_amount : c.hold.result.0 ≡ amount net P (Hold k) =
     let road = c.path-road-in-1.ensures in
     c.hold.ensures net k road (rw road.to at c.register-receiver-in-1.ensures) in
-    asked-slack (Hold k) is_hold hold_amount c.slack-in-1.ensures
+    asked_slack (Hold k) is_hold hold_amount c.slack-in-1.ensures
