@@ -12,4 +12,4 @@ go_on-last-requires c =
 pub returns : goal.returns
 returns c =
     let Δ : Arrows = arrows c.args.n c.args.count c.args.tail.now c.args.head.now c.args.amount.now in
-    looked_kept Δ c.requires.shape _ _ _ _ _ c.go_on-last.ensures (omega (arith, c.if-entries-ne0.false)) c.requires.lows _ _ _ c.keep.ensures
+    looked_kept Δ c.requires.shape _ _ _ _ _ c.go_on-last.ensures (omega arith) c.requires.lows _ _ _ c.keep.ensures
