@@ -1,6 +1,10 @@
 -- `skew::question::reply` meets its contract: number 10 where a test failed, else the slack. The parts answer of the numbers as they are read
 -- back, which are the numbers themselves.
-use mathlib.Core.Path.{sym, ◌∙◌}
+use mathlib.Core.Path.{◌≡◌, sym, ◌∙◌}
+use lib.IntN.{ℤ}
+use Rattle.whole.proofs.Lin.{lin}
+use Rattle.paper.specs.Network.{Network}
+use Rattle.skew.specs.Slack.{IsSlack}
 use mathlib.Core.List.{List}
 use Rattle.paper.specs.File.{network_of}
 use Rattle.paper.specs.Refusals.{faults}
@@ -10,6 +14,10 @@ use Rattle.paper.specs.Question.{Question, asked, InRange, FileAnswers}
 use Rattle.skew.proofs.Limits.{read, asked_read}
 use Rattle.skew.proofs.Replies.{is_in_range, no_rule_lem, no_numbers, question_reply, slack_reply}
 use Rattle.skew.proofs.question.reply.Goals as goal
+
+-- what is as long as the slack is the slack
+as_long : (N : Network) (q : Question) (y z : ℤ) → IsSlack N q y → z ≡ y → IsSlack N q z
+as_long N q y z s e = rw e s
 
 pub returns-then-not-numbers : goal.returns-then-not-numbers
 returns-then-not-numbers c =
@@ -51,4 +59,4 @@ returns c =
     is_in_range c.exists-rule.result header.registers header.paths c.exists-rule.ensures
     (sym c.in_range-numbers.ensures ∙ c.if-not-numbers.false)
     c.if-not-rule.false in
-    answered _ (slack_reply _ first at c.requires in_range c.slack-s.result c.slack-s.ensures)
+    answered _ (slack_reply _ first at c.requires in_range _ (as_long (network_of c.args.file.now) at c.slack-s.result.0 _ c.slack-s.ensures (omega lin)))
