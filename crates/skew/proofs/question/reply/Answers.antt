@@ -2,6 +2,9 @@
 -- back, which are the numbers themselves.
 use mathlib.Core.Path.{◌≡◌, sym, ◌∙◌}
 use lib.IntN.{ℤ}
+use mir.Syntax.{w32}
+use mir.Val.{SFits}
+use borrow.Author.Rules.{rules}
 use Rattle.whole.proofs.Lin.{lin}
 use Rattle.paper.specs.Network.{Network}
 use Rattle.skew.specs.Slack.{IsSlack}
@@ -59,4 +62,5 @@ returns c =
     is_in_range c.exists-rule.result header.registers header.paths c.exists-rule.ensures
     (sym c.in_range-numbers.ensures ∙ c.if-not-numbers.false)
     c.if-not-rule.false in
+    let fits : SFits w32 c.slack-s.result.0 = search rules in
     answered _ (slack_reply _ first at c.requires in_range _ (as_long (network_of c.args.file.now) at c.slack-s.result.0 _ c.slack-s.ensures (omega lin)))
