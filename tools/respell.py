@@ -51,7 +51,9 @@ def snake(name):
 
 
 def spelled(name, defined):
-    """The name as it is to be: a dash stays between a definition and a function of lists, and any other is an underscore."""
+    """The name as it is to be: a dash stays between a definition and a function of lists, and any other is an underscore. A type's is in camel case."""
+    if name[0].isupper():
+        return re.sub(r"-([a-z])", lambda m: m[1].upper(), name)
     words = snake(name)
     of, _, function = words.partition("-")
     if function in JOINED and of in defined:
@@ -75,7 +77,7 @@ def table_of(top):
             declared.update(RULESET.findall(text))
         if "/specs/" in path:
             defined.update(snake(m) for m in DEFINED.findall(text) if m[0].islower())
-    own = (n for n in declared if n[0].islower() or n[0] == "μ")
+    own = (n for n in declared if n[0].islower() or n[0] == "μ" or "-" in n)
     table = {n: APART.get(n) or spelled(n, defined) for n in own if spelled(n, defined) != n}
     # Laws of a file's bytes (`file-A`) and the file itself (`fileA`) are in files that do not meet.
     taken = {spelled(n, defined) for n in declared if "-" not in n}

@@ -53,10 +53,10 @@ module _ (N : Network) (before : List ℕ) where
 -- and whatever is left with the row's outcome is the row's, but for the loop
 module _ (N : Network) (before after : List ℕ) where
   -- some loop that the paper allows stands where the row's does
-  abbrev Left-as : Expected → Type 0
-  Left-as e = (loop : List Rule) × Comes N (showing loop e) × (after ≡ row_bytes (showing loop e) ++ drop (length (row_bytes (showing loop e))) before)
+  abbrev LeftAs : Expected → Type 0
+  LeftAs e = (loop : List Rule) × Comes N (showing loop e) × (after ≡ row_bytes (showing loop e) ++ drop (length (row_bytes (showing loop e))) before)
 
-  left_row : (e : Expected) → Comes N e → Left N (outcome_of e) before after → Left-as e
+  left_row : (e : Expected) → Comes N e → Left N (outcome_of e) before after → LeftAs e
   left_row (answered P latencies loop) c l =
       let one = answer_unique c.1 l.answer in
       let same = latencies_same (λ i. get_or latencies i (pos 0)) l.latency N.registers one.1 in
@@ -66,7 +66,7 @@ module _ (N : Network) (before after : List ℕ) where
   left_row (refused_9 loop) c l = (l.loop, (c.0, l.refutes), l.bytes)
 
   -- A row without a loop is answered at the floor, where any result has none.
-  row_no_loop : (e : Expected) → Comes N e → Left-as e → loop_of e ≡ [] → after ≡ row_bytes e ++ drop (length (row_bytes e)) before
+  row_no_loop : (e : Expected) → Comes N e → LeftAs e → loop_of e ≡ [] → after ≡ row_bytes e ++ drop (length (row_bytes e)) before
   row_no_loop (answered P latencies loop) c l e =
       let floor : P ≡ N.floor = rw e at c.2 in
       let none = floor_no_loop N P l.0 l.1.2 floor in
