@@ -1,5 +1,5 @@
 // Records that follow one another.
-ghost use Rattle.std.specs.Prelude.{◌≡◌, map, ◌+◌, ◌*◌, ◌≤◌, length, take};
+ghost use Rattle.std.specs.Prelude.{◌≡◌, map, ◌+◌, ◌*◌, ◌≤◌, length};
 ghost use Rattle.std.proofs.lemmas.List.Edits.{sets};
 ghost use Rattle.paper.specs.Output.{latency_records, entry_records};
 ghost use Rattle.loops.specs.Model.{at};
@@ -7,37 +7,33 @@ ghost use Rattle.loops.specs.Names.{named};
 ghost use Rattle.answer.specs.Records.{Nameable, Timeable};
 
 use crate::record::{put_entry, put_latency};
+use paper::Rule;
 
 // The latencies stand behind the answer's first record, which takes 14 bytes.
-pub fn put_latencies(out: &mut [u8], row: &[i32], n: usize)
-    requires { Timeable row.now n out.old }
-    ensures { out.new ≡ sets out.old 14 (latency_records (at row.now) n) }
+pub fn put_latencies(out: &mut [u8], row: &[i32])
+    requires { Timeable row.now out.old }
+    ensures { out.new ≡ sets out.old 14 (latency_records (at row.now) (length row.now)) }
 {
     // The latencies of the registers before i stand in the output, and nothing else changed.
-    let mut i = 0;
-    while i < n {
-        put_latency(out, 14 + 6 * i, row[i]);
-        i += 1;
+    for (i, &x) in row.iter().enumerate() {
+        put_latency(out, 14 + 6 * i, x);
     }
 }
 
 // The loop is given as places of arrows; each entry names the rule that stands at its place.
-pub fn put_entries(
-    out: &mut [u8],
-    at: usize,
-    kind: &[u8],
-    number: &[u16],
-    ring: &[u16],
-    entries: usize,
-)
-    requires { (Nameable kind.now number.now ring.now entries) × (at + 10 * entries ≤ length out.old) }
-    ensures { out.new ≡ sets out.old at (entry_records (map (named kind.now number.now) (take entries ring.now))) }
+pub fn put_entries(out: &mut [u8], at: usize, rules: &[Rule], ring: &[u16])
+    requires nameable { Nameable rules.now ring.now }
+    requires in_bounds { at + 10 * length ring.now ≤ length out.old }
+    ensures { out.new ≡ sets out.old at (entry_records (map (named rules.now) ring.now)) }
 {
     // The records of the first j entries stand in the output from `at` on, and nothing else changed.
-    let mut j = 0;
-    while j < entries {
-        let e = ring[j] as usize;
-        put_entry(out, at + 10 * j, kind[e] as i32, number[e] as i32);
-        j += 1;
+    for (j, &e) in ring.iter().enumerate() {
+        let rule = &rules[usize::from(e)];
+        put_entry(
+            out,
+            at + 10 * j,
+            i32::from(rule.kind()),
+            i32::from(rule.number()),
+        );
     }
 }

@@ -1,160 +1,119 @@
--- Filling, register by register and then path by path: each turn writes its rules, and what stood before stands. At the end every place has
--- its rule. Rests on `Puts` and on the places of `loops`.
-use mathlib.Core.Path.{◌≡◌, sym, ap, ◌∙◌, subst}
-use mathlib.Core.List.{List}
-use Prim.Native.Nat.{ℕ, ◌+◌, ◌-◌, ◌*◌, ◌≤◌, ◌<◌}
-use native.Mathlib.Omega.{arith}
+-- Filling, register by register and then path by path: each turn writes its rules, and what stood before stands, since no two rules share a
+-- place. At the end every place has its rule. Rests on the places of `loops`.
 use native.Mathlib.Decide.{ℕ_discrete}
-use lib.ListN.{length, get_or, set, length-set}
-use lib.Seq.{get_or-set_same, get_or-set_other}
-use lib.IntN.{ℤ, pos}
+use Rattle.std.proofs.Common.{◌≡◌, ◌≢◌, refl, length-set, ℕ, ◌+◌, ◌≤◌, ◌<◌, List, length, set, ℤ, pos, arith, ◌∙◌}
+use Rattle.std.proofs.lemmas.Grind.{get_or-set_at}
+use Rattle.std.proofs.lemmas.List.{get_or-set_other}
 use Rattle.paper.specs.Network.{Network}
-use Rattle.paper.specs.Rules.{Rule, Setup, Hold, Low, High, Exists, kind, tail, head, base}
+use Rattle.paper.specs.declared.Rule.{Rule}
+use Rattle.paper.specs.declared.Rule.TheVariants.{Setup, Hold, Low, High}
+use Rattle.paper.specs.Rules.{Exists, tail, head, base}
+use Rattle.loops.specs.declared.Arrow.{Arrow}
+use Rattle.loops.specs.Arrows.{arrow_at}
 use Rattle.loops.specs.Family.{Graph, Enumerates, fixed_graph}
-use Rattle.loops.specs.RuleFamily.{graph_of, rules}
-use Rattle.loops.specs.Layout.{windows, fixed_rule_count, rule_count, rule_at, place_of, low_place, high_place, hold_place, setup_place}
-use Rattle.loops.proofs.Names.{rule_of_lem}
+use Rattle.loops.specs.RuleFamily as family
+use Rattle.loops.specs.RuleFamily.{IsFixed}
+use Rattle.loops.specs.Names.{named}
+use Rattle.loops.specs.Layout.{low_place, high_place, hold_place, setup_place, fixed_rule_count, rule_count, rule_at, place_of}
 use Rattle.loops.proofs.Places.{rule_cases, rule_exists, rules_enumerate, fixed_enumerates}
-use Rattle.arrows.specs.Filled.{Lists, rule_in, Room, Filled}
-use Rattle.arrows.specs.Filling.{with_rule, Stands, HasBase, Wide, Windows, Paths}
-use Rattle.arrows.proofs.Puts.{with_rule_lem, with_amount, wide_rule, wide_amount, stands_new, stands_kept, base_new, base_kept}
+use Rattle.arrows.specs.Filled.{Filled}
+use Rattle.arrows.specs.Filling.{Stands, HasBase, Windows, Paths}
 
--- a rule that does not know the period, with its name, ends and amount
-abbrev Whole : Network → Lists → List ℤ → Rule → Type 0
-Whole N L amounts r = Stands N L r × HasBase N amounts r
+-- a rule that does not know the period, with its arrow and its amount
+abbrev Whole : Network → List Rule → List Arrow → Rule → Type 0
+Whole N rules arrows r = Stands N rules arrows r × HasBase N arrows r
 
-module _ (N : Network) (L : Lists) (amounts : List ℤ) (wide : Wide N L amounts) (r : Rule) (x : Exists N r) where
-  whole_new : Whole N (with_rule_lem N L r) (with_amount N amounts r) r
-  whole_new = (stands_new N L amounts wide r x, base_new N L amounts wide r x)
+-- ---- two rules are written, r at place e and then s at place g, with their arrows
 
-  whole_kept : (s : Rule) → Exists N s → Whole N L amounts s → Whole N (with_rule_lem N L r) (with_amount N amounts r) s
-  whole_kept s y h = (stands_kept N L amounts wide r x s y h.0, base_kept N L amounts wide r x s y h.1)
+-- x at place e of a list, and then y at place g
+abbrev written : {A : Type 0} → List A → ℕ → A → ℕ → A → List A
+written l e x g y = set (set l e x) g y
 
-  wide_whole : Wide N (with_rule_lem N L r) (with_amount N amounts r)
-  wide_whole = wide_amount N (with_rule_lem N L r) amounts (wide_rule N L amounts wide r x) r x
-
--- where all rules have room, those by place have
-pub room_wide : {N : Network} {L : Lists} {amounts bases : List ℤ} → Room N L amounts bases → Wide N L amounts
-room_wide r = record { in_kinds = r.in_kinds; in_numbers = r.in_numbers; in_tails = r.in_tails; in_heads = r.in_heads; in_amounts = r.in_amounts }
-
--- ---- the windows
-
--- before the first turn: register 0 has no window
-pub windows_none : (N : Network) (L : Lists) (amounts : List ℤ) → Wide N L amounts → Windows N L amounts 1
-windows_none N L amounts wide =
-    record { wide = wide; some = omega arith; low = λ i a b. absurd (omega arith); high = λ i a b. absurd (omega arith) }
-
-module _ (N : Network) (L : Lists) (amounts : List ℤ) (i : ℕ) (l : i < N.registers) (w : Windows N L amounts i) where
-  exists : (0 < i) × (i < N.registers)
-  exists = (w.some, l)
-
-  -- after the low rule, and after the high rule
-  abbrev L₁ : Lists
-  L₁ = with_rule_lem N L (Low i)
-
-  abbrev amounts₁ : List ℤ
-  amounts₁ = with_amount N amounts (Low i)
-
-  wide₁ : Wide N L₁ amounts₁
-  wide₁ = wide_whole N L amounts w.wide (Low i) exists
-
-  keep : (s : Rule) → Exists N s → Whole N L amounts s → Whole N (with_rule_lem N L₁ (High i)) (with_amount N amounts₁ (High i)) s
-  keep s y h = whole_kept N L₁ amounts₁ wide₁ (High i) exists s y (whole_kept N L amounts w.wide (Low i) exists s y h)
-
-  -- a turn: register i's two rules, one after the other
-  windows_more : Windows N (with_rule_lem N L₁ (High i)) (with_amount N amounts₁ (High i)) (i + 1)
-  windows_more = record {
-    wide = wide_whole N L₁ amounts₁ wide₁ (High i) exists;
-    some = omega arith;
-    low = λ j a b. at_low j a b (ℕ_discrete j i);
-    high = λ j a b. at_high j a b (ℕ_discrete j i);
+module _ {N : Network} (rules : List Rule) (arrows : List Arrow) (e g : ℕ) (r s : Rule) (a b : Arrow) where
+  -- a rule that has neither place stands where it stood
+  stands_kept : (q : Rule) → place_of N q ≢ e → place_of N q ≢ g → Stands N rules arrows q → Stands N (written rules e r g s) (written arrows e a g b) q
+  stands_kept q x y h = record {
+    is = grind (arith, get_or-set_other, h.is);
+    leaves = grind (arith, get_or-set_other, h.leaves);
+    reaches = grind (arith, get_or-set_other, h.reaches);
   }
-    where
-      at_low : (j : ℕ) → 0 < j → j < i + 1 → Dec (j ≡ i) → Whole N (with_rule_lem N L₁ (High i)) (with_amount N amounts₁ (High i)) (Low j)
-      at_low j a b (yes e) =
-          subst (λ k. Whole N (with_rule_lem N L₁ (High i)) (with_amount N amounts₁ (High i)) (Low k)) (sym e)
-          (whole_kept N L₁ amounts₁ wide₁ (High i) exists (Low i) exists (whole_new N L amounts w.wide (Low i) exists))
-      at_low j a b (no e) = keep (Low j) (a, omega arith) (w.low j a (omega arith))
 
-      at_high : (j : ℕ) → 0 < j → j < i + 1 → Dec (j ≡ i) → Whole N (with_rule_lem N L₁ (High i)) (with_amount N amounts₁ (High i)) (High j)
-      at_high j a b (yes e) =
-          subst (λ k. Whole N (with_rule_lem N L₁ (High i)) (with_amount N amounts₁ (High i)) (High k)) (sym e)
-          (whole_new N L₁ amounts₁ wide₁ (High i) exists)
-      at_high j a b (no e) = keep (High j) (a, omega arith) (w.high j a (omega arith))
+  whole_kept : (q : Rule) → place_of N q ≢ e → place_of N q ≢ g → Whole N rules arrows q → Whole N (written rules e r g s) (written arrows e a g b) q
+  whole_kept q x y h = (stands_kept q x y h.0, grind (arith, get_or-set_other, h.1))
 
--- as the code has the two places, the two amounts and the lists afterwards
-pub windows_put : (N : Network) (n i : ℕ) {L M : Lists} {amounts : List ℤ} {low-amount high-amount : ℤ} {e g : ℕ}
-    → n ≡ N.registers → i < n → Windows N L amounts i → e ≡ low_place i → g ≡ high_place n i
-    → M ≡ with_rule (with_rule L e 2 i 0 i) g 3 i i 0 → low-amount ≡ base N (Low i) → high-amount ≡ base N (High i)
-    → Windows N M (set (set amounts e low-amount) g high-amount) (i + 1)
-windows_put N n i {L} {M} {amounts} en l w ee ge put la ha = rw (put, ge, ee, la, ha, en) (windows_more N L amounts i (omega arith) w)
+  module _ (apart : e ≢ g) (room : e < length rules) (arrows_room : e < length arrows) where
+    -- the first stands where it was written
+    whole_first : place_of N r ≡ e → a.tail ≡ tail N r → a.head ≡ head N r → a.amount ≡ base N r → Whole N (written rules e r g s) (written arrows e a g b) r
+    whole_first place leaves reaches weighs =
+        let rule : named (written rules e r g s) e ≡ r = grind (arith, get_or-set_at, get_or-set_other) in
+        let arrow : arrow_at (written arrows e a g b) e ≡ a = grind (arith, get_or-set_at, get_or-set_other) in
+        (record { is = cc; leaves = cc; reaches = cc }, cc)
 
--- ---- the paths
+  -- and so does the second
+  module _ (room : g < length rules) (arrows_room : g < length arrows) where
+    stands_second : place_of N s ≡ g → b.tail ≡ tail N s → b.head ≡ head N s → Stands N (written rules e r g s) (written arrows e a g b) s
+    stands_second place leaves reaches =
+        let rule : named (written rules e r g s) g ≡ s = grind (arith, get_or-set_at, length-set) in
+        let arrow : arrow_at (written arrows e a g b) g ≡ b = grind (arith, get_or-set_at, length-set) in
+        record { is = cc; leaves = cc; reaches = cc }
 
--- before the first path: all windows stand
-pub paths_none : (N : Network) (L : Lists) (amounts bases : List ℤ) (n : ℕ) → n ≡ N.registers → Windows N L amounts n → N.paths ≤ length bases
-    → Paths N L amounts bases 0
-paths_none N L amounts bases n e w b =
-    record { windows = rw e at w; in_bases = b; hold = λ p h. absurd (omega arith); setup = λ p h. absurd (omega arith); based = λ p h. absurd (omega arith) }
+    whole_second : place_of N s ≡ g → b.tail ≡ tail N s → b.head ≡ head N s → b.amount ≡ base N s → Whole N (written rules e r g s) (written arrows e a g b) s
+    whole_second place leaves reaches weighs =
+        let arrow : arrow_at (written arrows e a g b) g ≡ b = grind (arith, get_or-set_at, length-set) in
+        (stands_second place leaves reaches, cc)
 
-module _ (N : Network) (L : Lists) (amounts bases : List ℤ) (p : ℕ) (l : p < N.paths) (w : Paths N L amounts bases p) where
-  -- after the hold rule
-  abbrev H : Lists
-  H = with_rule_lem N L (Hold p)
+-- ---- a turn
 
-  abbrev held : List ℤ
-  held = with_amount N amounts (Hold p)
+-- register i's two rules, one after the other
+pub windows_more : {N : Network} {rules : List Rule} {arrows : List Arrow} {n i e g : ℕ} {x y : ℤ} → n ≡ N.registers → i < n → e ≡ low_place i → g ≡ high_place n i
+    → x ≡ base N (Low i) → y ≡ base N (High i) → Windows N rules arrows i
+    → Windows N (written rules e (Low i) g (High i)) (written arrows e (record { tail = 0; head = i; amount = x }) g (record { tail = i; head = 0; amount = y })) (i + 1)
+windows_more {rules = rules} {arrows = arrows} {i = i} {e = e} {g = g} registers below at_low at_high of_low of_high w =
+    let some = w.some in
+    let r = w.wide in
+    record {
+      wide = record { in_rules = grind (arith, length-set, r); in_arrows = grind (arith, length-set, r) };
+      some = omega arith;
+      low = λ j z b.
+          elim (ℕ_discrete j i) [
+            | yes h ↦ rw h (whole_first rules arrows e g _ _ _ _ (omega arith) (omega arith) (omega arith) (omega arith) refl refl of_low)
+            | no h ↦ whole_kept rules arrows e g _ _ _ _ (Low j) (omega arith) (omega arith) (w.low j z (omega arith))
+          ];
+      high = λ j z b.
+          elim (ℕ_discrete j i) [
+            | yes h ↦ rw h (whole_second rules arrows e g _ _ _ _ (omega arith) (omega arith) (omega arith) refl refl of_high)
+            | no h ↦ whole_kept rules arrows e g _ _ _ _ (High j) (omega arith) (omega arith) (w.high j z (omega arith))
+          ];
+    }
 
-  wide_held : Wide N H held
-  wide_held = wide_whole N L amounts w.windows.wide (Hold p) l
-
-  path_keep : (s : Rule) → Exists N s → Whole N L amounts s → Whole N (with_rule_lem N H (Setup p)) held s
-  path_keep s y h =
-      let k = whole_kept N L amounts w.windows.wide (Hold p) l s y h in
-      (stands_kept N H held wide_held (Setup p) l s y k.0, k.1)
-
-  setup_keep : (s : Rule) → Exists N s → Stands N L s → Stands N (with_rule_lem N H (Setup p)) s
-  setup_keep s y h = stands_kept N H held wide_held (Setup p) l s y (stands_kept N L amounts w.windows.wide (Hold p) l s y h)
-
-  -- a turn: path p's two rules, one after the other
-  paths_more : Paths N (with_rule_lem N H (Setup p)) held (set bases p (base N (Setup p))) (p + 1)
-  paths_more = record {
-    windows = record {
-      wide = wide_rule N H held wide_held (Setup p) l;
-      some = w.windows.some;
-      low = λ i a b. path_keep (Low i) (a, b) (w.windows.low i a b);
-      high = λ i a b. path_keep (High i) (a, b) (w.windows.high i a b);
-    };
-    in_bases = rw length-set w.in_bases;
-    hold = λ q h. at_hold q h (ℕ_discrete q p);
-    setup = λ q h. at_setup q h (ℕ_discrete q p);
-    based = λ q h. at_based q h (ℕ_discrete q p);
-  }
-    where
-      at_hold : (q : ℕ) → q < p + 1 → Dec (q ≡ p) → Whole N (with_rule_lem N H (Setup p)) held (Hold q)
-      at_hold q h (yes e) =
-          let k = whole_new N L amounts w.windows.wide (Hold p) l in
-          subst (λ k. Whole N (with_rule_lem N H (Setup p)) held (Hold k)) (sym e) (stands_kept N H held wide_held (Setup p) l (Hold p) l k.0, k.1)
-      at_hold q h (no e) = path_keep (Hold q) (omega arith) (w.hold q (omega arith))
-
-      at_setup : (q : ℕ) → q < p + 1 → Dec (q ≡ p) → Stands N (with_rule_lem N H (Setup p)) (Setup q)
-      at_setup q h (yes e) = subst (λ k. Stands N (with_rule_lem N H (Setup p)) (Setup k)) (sym e) (stands_new N H held wide_held (Setup p) l)
-      at_setup q h (no e) = setup_keep (Setup q) (omega arith) (w.setup q (omega arith))
-
-      at_based : (q : ℕ) → q < p + 1 → Dec (q ≡ p) → get_or (set bases p (base N (Setup p))) q (pos 0) ≡ base N (Setup q)
-      at_based q h (yes e) =
-          subst (λ k. get_or (set bases p (base N (Setup p))) k (pos 0) ≡ base N (Setup k)) (sym e)
-          (get_or-set_same bases p (base N (Setup p)) (pos 0) (omega (arith, w.in_bases)))
-      at_based q h (no e) = get_or-set_other bases p q (base N (Setup p)) (pos 0) e ∙ w.based q (omega arith)
-
--- as the code has the two places, the ends, the two amounts and the lists afterwards
-pub paths_put : (N : Network) (n m p : ℕ) {L M : Lists} {amounts bases : List ℤ} {hold-amount setup-amount : ℤ} {e g from to : ℕ}
-    → n ≡ N.registers → m ≡ N.paths → p < m → Paths N L amounts bases p → from ≡ N.from p → to ≡ N.to p
-    → e ≡ hold_place n p → g ≡ setup_place n m p
-    → M ≡ with_rule (with_rule L e 1 p to from) g 0 p from to → hold-amount ≡ base N (Hold p) → setup-amount ≡ base N (Setup p)
-    → Paths N M (set amounts e hold-amount) (set bases p setup-amount) (p + 1)
-paths_put N n m p {L} {M} {amounts} {bases} en em l w f t ee ge put ha sa =
-    rw (put, ge, ee, ha, sa, f, t, en, em) (paths_more N L amounts bases p (omega arith) w)
+-- path p's two rules, and what the setup rule's amount is without the period
+pub paths_more : {N : Network} {rules : List Rule} {arrows : List Arrow} {bases : List ℤ} {n m p e g from to : ℕ} {x y : ℤ} → n ≡ N.registers → m ≡ N.paths → p < m
+    → from ≡ N.from p → to ≡ N.to p → e ≡ hold_place n p → g ≡ setup_place n m p → x ≡ base N (Hold p) → y ≡ base N (Setup p) → Paths N rules arrows bases p
+    → Paths N (written rules e (Hold p) g (Setup p))
+    (written arrows e (record { tail = to; head = from; amount = x }) g (record { tail = from; head = to; amount = pos 0 })) (set bases p y) (p + 1)
+paths_more {rules = rules} {arrows = arrows} {p = p} {e = e} {g = g} registers paths below leaves reaches at_hold at_setup of_hold of_setup w =
+    let some = w.windows.some in
+    let r = w.windows.wide in
+    record {
+      windows = record {
+        wide = record { in_rules = grind (arith, length-set, r); in_arrows = grind (arith, length-set, r) };
+        some = some;
+        low = λ j z b. whole_kept rules arrows e g _ _ _ _ (Low j) (omega arith) (omega arith) (w.windows.low j z b);
+        high = λ j z b. whole_kept rules arrows e g _ _ _ _ (High j) (omega arith) (omega arith) (w.windows.high j z b);
+      };
+      in_bases = let b = w.in_bases in grind (arith, length-set);
+      hold = λ q b.
+          elim (ℕ_discrete q p) [
+            | yes h ↦ rw h (whole_first rules arrows e g _ _ _ _ (omega arith) (omega arith) (omega arith) (omega arith) reaches leaves of_hold)
+            | no h ↦ whole_kept rules arrows e g _ _ _ _ (Hold q) (omega arith) (omega arith) (w.hold q (omega arith))
+          ];
+      setup = λ q b.
+          elim (ℕ_discrete q p) [
+            | yes h ↦ rw h (stands_second rules arrows e g _ _ _ _ (omega arith) (omega arith) (omega arith) leaves reaches)
+            | no h ↦ stands_kept rules arrows e g _ _ _ _ (Setup q) (omega arith) (omega arith) (w.setup q (omega arith))
+          ];
+      based = λ q b. let r = w.in_bases in grind (arith, get_or-set_at, get_or-set_other, w.based q);
+    }
 
 -- ---- all rules
 
@@ -169,57 +128,42 @@ enumerates_same G old name count same names = record {
   found = λ r h. let (e, b, is) = names.found r h in (e, b, same e b ∙ is);
 }
 
-kind_below : (r : Rule) → kind r < 4
-kind_below (Setup p) = omega arith
-kind_below (Hold p) = omega arith
-kind_below (Low i) = omega arith
-kind_below (High i) = omega arith
-
-module _ (N : Network) (L : Lists) (amounts bases : List ℤ) (k : ℕ) (all : N.paths ≤ k) (w : Paths N L amounts bases k) where
-  stands : (r : Rule) → Exists N r → Stands N L r
+module _ {N : Network} {rules : List Rule} {arrows : List Arrow} {bases : List ℤ} {k : ℕ} (all : N.paths ≤ k) (w : Paths N rules arrows bases k) where
+  stands : (r : Rule) → Exists N r → Stands N rules arrows r
   stands (Setup p) h = w.setup p (omega arith)
   stands (Hold p) h = (w.hold p (omega arith)).0
   stands (Low i) h = (w.windows.low i h.0 h.1).0
   stands (High i) h = (w.windows.high i h.0 h.1).0
 
+  weighs : (r : Rule) → Exists N r → IsFixed r → HasBase N arrows r
+  weighs (Setup p) h z = absurd z
+  weighs (Hold p) h z = (w.hold p (omega arith)).1
+  weighs (Low i) h z = (w.windows.low i h.0 h.1).1
+  weighs (High i) h z = (w.windows.high i h.0 h.1).1
+
   -- the rule at each place
-  abbrev there : (e : ℕ) → e < rule_count N → Stands N L (rule_at N e)
+  there : (e : ℕ) → e < rule_count N → Stands N rules arrows (rule_at N e)
   there e h = stands (rule_at N e) (rule_exists N e h)
 
-  rule_in_lem : (r : Rule) → Exists N r → rule_in L (place_of N r) ≡ r
-  rule_in_lem r h = let s = stands r h in rw (s.of_kind, s.of_number) (rule_of_lem r)
-
-  name_is : (e : ℕ) → e < rule_count N → rule_in L e ≡ rule_at N e
-  name_is e h = ap (rule_in L) (sym (rule_place N e h)) ∙ rule_in_lem (rule_at N e) (rule_exists N e h)
-
-  fixed_weighs : (e : ℕ) → e < fixed_rule_count N → get_or amounts (place_of N (rule_at N e)) (pos 0) ≡ base N (rule_at N e)
-  fixed_weighs e h =
-      rule_cases N (λ r. get_or amounts (place_of N r) (pos 0) ≡ base N r) e
-      (λ a. (w.windows.low (e + 1) (omega arith) (omega arith)).1)
-      (λ a b. (w.windows.high (e - windows N + 1) (omega arith) (omega arith)).1)
-      (λ a b. (w.hold (e - 2 * windows N) (omega arith)).1)
-      (λ a. absurd (omega arith))
+  name_is : (e : ℕ) → e < rule_count N → named rules e ≡ rule_at N e
+  name_is e h = let p = rule_place N e h in let s = there e h in cc
 
   -- once every path has its rules, the lists are filled
-  pub paths_all : Filled N L amounts bases
+  pub paths_all : Filled N rules arrows bases
   paths_all = record {
-    room =
-        let wide = w.windows.wide in
-        record {
-          in_kinds = wide.in_kinds;
-          in_numbers = wide.in_numbers;
-          in_tails = wide.in_tails;
-          in_heads = wide.in_heads;
-          in_amounts = wide.in_amounts;
-          in_bases = w.in_bases;
-        };
-    enumerates = enumerates_same (graph_of N) (rule_at N) (rule_in L) (rule_count N) name_is (rules_enumerate N);
-    fixed_enumerates = enumerates_same (fixed_graph (rules N)) (rule_at N) (rule_in L) (fixed_rule_count N) (λ e h. name_is e (omega arith)) (fixed_enumerates N);
-    kinds_are = λ e h. let k = ap (λ i. get_or L.kinds i 0) (sym (rule_place N e h)) ∙ (there e h).of_kind in rw k (kind_below (rule_at N e));
-    leaves = λ e h. ap (λ k. get_or L.tails k 0) (sym (rule_place N e h)) ∙ (there e h).leaves ∙ ap (tail N) (sym (name_is e h));
-    reaches = λ e h. ap (λ k. get_or L.heads k 0) (sym (rule_place N e h)) ∙ (there e h).reaches ∙ ap (head N) (sym (name_is e h));
-    fixed = λ e h. ap (λ k. get_or amounts k (pos 0)) (sym (rule_place N e (omega arith))) ∙ fixed_weighs e h ∙ ap (base N) (sym (name_is e (omega arith)));
-    setups = λ p h. rule_in_lem (Setup p) h;
+    room = record { in_rules = w.windows.wide.in_rules; in_arrows = w.windows.wide.in_arrows; in_bases = w.in_bases };
+    enumerates = enumerates_same (family.graph_of N) (rule_at N) (named rules) (rule_count N) name_is (rules_enumerate N);
+    fixed_enumerates =
+        enumerates_same (fixed_graph (family.rules N)) (rule_at N) (named rules) (fixed_rule_count N) (λ e h. name_is e (omega arith)) (fixed_enumerates N);
+    leaves = λ e h. let p = rule_place N e h in let s = there e h in let n = name_is e h in cc;
+    reaches = λ e h. let p = rule_place N e h in let s = there e h in let n = name_is e h in cc;
+    fixed = λ e h.
+        let p = rule_place N e (omega arith) in
+        let f = (fixed_enumerates N).here e h in
+        let s = weighs (rule_at N e) f.0 f.1 in
+        let n = name_is e (omega arith) in
+        cc;
+    setups = λ p h. (w.setup p (omega arith)).is;
     based = λ p h. w.based p (omega arith);
-    lows = λ v z b. rule_in_lem (Low v) (z, b);
+    lows = λ v z b. (w.windows.low v z b).0.is;
   }

@@ -1,6 +1,5 @@
--- For callers: `Laid`, and `Weighing` for what a period changes.
-pub mod Puts
-pub mod Fills
-pub mod Same
-pub mod Weighing
+-- For callers: `Laid`.
 pub mod Laid
+pub mod Sources
+pub mod Weighing
+pub mod Fills

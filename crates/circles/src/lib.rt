@@ -2,120 +2,83 @@
 // writes a pred. Each walk takes at most as many steps as there are registers.
 #![tactic(auto)]
 
-ghost use Rattle.std.specs.Prelude.{◌≡◌, ◌++◌, ◌<◌, length, get_or, drop};
-ghost use Rattle.loops.specs.Arrows.{arrows};
+ghost use Rattle.std.specs.Prelude.{◌≡◌, ◌<◌, length, get_or};
+ghost use Rattle.loops.specs.Graphs.{of};
 ghost use Rattle.loops.specs.Model.{back, trail, rooted, lowest, around};
-ghost use Rattle.circles.specs.Circle.{Followable, Unending, Astray, IsCircle, RingRoom, Showable, ShowsCircle};
+ghost use Rattle.circles.specs.Circle.{Unending, Astray, IsCircle, Listable, ShowsCircle};
+
+use arrayvec::ArrayVec;
+use loops::Preds;
+use paper::limits::MOST_REGISTERS;
 
 // The register one step back from v, whose pred is an arrow.
-fn step(tail: &[u16], preds: &[u16], v: usize) -> usize
-    requires { (v < length preds.now) × (get_or preds.now v 0 < length tail.now) }
-    ensures { result ≡ get_or tail.now (get_or preds.now v 0) 0 }
+#[tactic(auto, unfolding(loops::specs::Model::back))]
+fn step(preds: Preds, v: usize) -> usize
+    requires register { v < preds.graph.registers }
+    requires arrow { get_or preds.list.now v 0 < length preds.graph.arrows.now }
+    ensures { result ≡ back (of preds.entry.graph) preds.entry.list.now 1 v }
 {
-    tail[preds[v] as usize] as usize
+    preds.graph.tail(usize::from(preds.list[v]))
 }
 
 // Whether the walk back from s comes to a register without a pred. n steps are enough: after them a register has come twice.
-pub fn grounded(
-    tail: &[u16],
-    head: &[u16],
-    amount: &[i32],
-    n: usize,
-    count: usize,
-    preds: &[u16],
-    s: usize,
-) -> bool
-    requires { Followable (arrows n count tail.now head.now amount.now) preds.now s }
-    ensures { result ≡ rooted (arrows n count tail.now head.now amount.now) preds.now n s }
+pub fn grounded(preds: Preds, s: usize) -> bool
+    requires { s < preds.graph.registers }
+    ensures { result ≡ rooted (of preds.entry.graph) preds.entry.list.now preds.entry.graph.registers s }
 {
-    let mut k = 0;
     let mut v = s;
     // After k steps the walk stands at v, and it ends from s exactly where it ends from v with the steps that are left (`Followed`).
-    while k < n {
-        if count <= preds[v] as usize {
-            return true;
+    for k in 0..preds.graph.registers {
+        match preds.of(v) {
+            Some(arrow) => v = usize::from(arrow.tail),
+            None => return true,
         }
-        v = step(tail, preds, v);
-        k += 1;
     }
-    count <= preds[v] as usize
+    preds.of(v).is_none()
 }
 
 // The register as many steps back from s as there are registers. Where the preds go on so far, it is on a circle.
-fn onto(
-    tail: &[u16],
-    head: &[u16],
-    amount: &[i32],
-    n: usize,
-    count: usize,
-    preds: &[u16],
-    s: usize,
-) -> usize
-    requires { Unending (arrows n count tail.now head.now amount.now) preds.now s }
-    ensures { result ≡ back (arrows n count tail.now head.now amount.now) preds.now n s }
+fn onto(preds: Preds, s: usize) -> usize
+    requires { Unending (of preds.graph) preds.list.now s }
+    ensures { result ≡ back (of preds.entry.graph) preds.entry.list.now preds.entry.graph.registers s }
 {
-    let mut k = 0;
     let mut v = s;
-    // v is k steps back from s (`Gone`).
-    while k < n {
-        v = step(tail, preds, v);
-        k += 1;
+    // v is k steps back from s.
+    for k in 0..preds.graph.registers {
+        v = step(preds, v);
     }
     v
 }
 
 // The lowest register on as many steps back from s.
-fn lowest(
-    tail: &[u16],
-    head: &[u16],
-    amount: &[i32],
-    n: usize,
-    count: usize,
-    preds: &[u16],
-    s: usize,
-) -> usize
-    requires { Unending (arrows n count tail.now head.now amount.now) preds.now s }
-    ensures { result ≡ lowest (arrows n count tail.now head.now amount.now) preds.now n s }
+fn lowest(preds: Preds, s: usize) -> usize
+    requires { Unending (of preds.graph) preds.list.now s }
+    ensures { result ≡ lowest (of preds.entry.graph) preds.entry.list.now preds.entry.graph.registers s }
 {
-    let mut k = 0;
     let mut v = s;
     let mut low = s;
-    // v is k steps back from s, and low the lowest register met so far (`Lowered`).
-    while k < n {
-        v = step(tail, preds, v);
-        k += 1;
-        if v < low {
-            low = v;
-        }
+    // v is k steps back from s, and low the lowest register met so far.
+    for k in 0..preds.graph.registers {
+        v = step(preds, v);
+        low = low.min(v);
     }
     low
 }
 
 // How many steps back from s until s comes again; 0 where it does not come. n steps are enough for any circle.
-fn around(
-    tail: &[u16],
-    head: &[u16],
-    amount: &[i32],
-    n: usize,
-    count: usize,
-    preds: &[u16],
-    s: usize,
-) -> usize
-    requires { Followable (arrows n count tail.now head.now amount.now) preds.now s }
-    ensures { result ≡ around (arrows n count tail.now head.now amount.now) preds.now s n 0 s }
+fn around(preds: Preds, s: usize) -> usize
+    requires { s < preds.graph.registers }
+    ensures { result ≡ around (of preds.entry.graph) preds.entry.list.now s preds.entry.graph.registers 0 s }
 {
-    let mut k = 0;
     let mut v = s;
     // After k steps the walk stands at v, and what the model's search answers is what it answers from there (`Circling`).
-    while k < n {
-        let e = preds[v] as usize;
-        if e >= count {
+    for k in 0..preds.graph.registers {
+        let Some(arrow) = preds.of(v) else {
             return 0;
-        }
-        v = tail[e] as usize;
-        k += 1;
+        };
+        v = usize::from(arrow.tail);
         if v == s {
-            return k;
+            return k + 1;
         }
     }
     0
@@ -129,79 +92,36 @@ struct Cycle {
 }
 
 // The circle on which the walk back from s ends, where s is not grounded: onto it, to its lowest register, and once around.
-fn circle(
-    tail: &[u16],
-    head: &[u16],
-    amount: &[i32],
-    n: usize,
-    count: usize,
-    preds: &[u16],
-    s: usize,
-) -> Cycle
-    requires { Astray (arrows n count tail.now head.now amount.now) preds.now s }
-    ensures { IsCircle (arrows n count tail.now head.now amount.now) preds.now s result.start result.steps }
+fn circle(preds: Preds, s: usize) -> Cycle
+    requires { Astray (of preds.graph) preds.list.now s }
+    ensures { IsCircle (of preds.entry.graph) preds.entry.list.now s result.start result.steps }
 {
-    let v = onto(tail, head, amount, n, count, preds, s);
-    let low = lowest(tail, head, amount, n, count, preds, v);
-    let steps = around(tail, head, amount, n, count, preds, low);
+    let start = lowest(preds, onto(preds, s));
     Cycle {
-        start: low,
-        steps: steps,
+        start,
+        steps: around(preds, start),
     }
 }
 
-// The arrows of the steps back from `start`, in the order of the arrows: the walk meets the last arrow first, so it writes from the end.
-fn list(
-    tail: &[u16],
-    head: &[u16],
-    amount: &[i32],
-    n: usize,
-    count: usize,
-    preds: &[u16],
-    start: usize,
-    steps: usize,
-    ring: &mut [u16],
-)
-    requires { RingRoom (arrows n count tail.now head.now amount.now) preds.now start steps ring.old }
-    ensures { ring.new ≡ trail (arrows n count tail.now head.now amount.now) preds.now steps start ++ drop steps ring.old }
+// The arrows of the steps back from `start`, in the order of the arrows: the walk meets the last arrow first, so they are turned round.
+fn list(preds: Preds, cycle: Cycle, ring: &mut ArrayVec<u16, MOST_REGISTERS>)
+    requires { Listable (of preds.graph) preds.list.now cycle.start cycle.steps }
+    ensures { ring.new.items ≡ trail (of preds.entry.graph) preds.entry.list.now cycle.steps cycle.start }
 {
-    let mut v = start;
-    let mut k = steps;
-    // k places are left to write; behind them stand the arrows of the steps taken (`RingListing`).
-    while k > 0 {
-        k -= 1;
-        let e = preds[v];
-        ring[k] = e;
-        v = tail[e as usize] as usize;
+    ring.clear();
+    let mut v = cycle.start;
+    // After k steps the ring has their arrows, the first one first (`RingListing`).
+    for k in 0..cycle.steps {
+        ring.push(preds.list[v]);
+        v = step(preds, v);
     }
+    ring.as_mut_slice().reverse();
 }
 
-// Lists the circle on which the walk back from s ends, and answers how many entries it has.
-pub fn show(
-    tail: &[u16],
-    head: &[u16],
-    amount: &[i32],
-    n: usize,
-    count: usize,
-    preds: &[u16],
-    s: usize,
-    ring: &mut [u16],
-) -> usize
-    requires { Showable (arrows n count tail.now head.now amount.now) preds.now s ring.old }
-    ensures { ShowsCircle (arrows n count tail.now head.now amount.now) preds.now s ring.new result }
+// Lists the circle on which the walk back from s ends.
+pub fn show(preds: Preds, s: usize, ring: &mut ArrayVec<u16, MOST_REGISTERS>)
+    requires { Astray (of preds.graph) preds.list.now s }
+    ensures { ShowsCircle (of preds.entry.graph) preds.entry.list.now s ring.new.items }
 {
-    let cycle = circle(tail, head, amount, n, count, preds, s);
-    let steps = cycle.steps;
-    list(
-        tail,
-        head,
-        amount,
-        n,
-        count,
-        preds,
-        cycle.start,
-        steps,
-        ring,
-    );
-    steps
+    list(preds, circle(preds, s), ring);
 }

@@ -1,10 +1,12 @@
 -- A trial of a period, step by step as the code goes: the amounts at the period, the relaxation that goes on from the kept row, and what it
 -- comes to. Each law speaks of one network that the lists hold. Rests on `Trials`, on `Laid` of `arrows` and on `Callers` of `needs`.
-use mathlib.Core.Path.{◌≡◌, sym}
+use Rattle.std.specs.Prelude.{Ok, Err}
+use mathlib.Core.Path.{◌≡◌, sym, ap, subst, ◌∙◌}
 use mathlib.Core.List.{List, map}
-use Prim.Native.Nat.{ℕ, ◌+◌, ◌*◌, ◌≤◌, ◌<◌}
+use Prim.Native.Nat.{ℕ, ◌≤◌, ◌<◌}
 use native.Mathlib.Omega.{arith}
 use lib.ListN.{length, take}
+use lib.Seq.{length-take-le, get_or-take}
 use lib.IntN.{ℤ, pos}
 use lib.Signed.{◌≤ℤ◌, ◌<ℤ◌}
 use Rattle.whole.proofs.Lin.{lin}
@@ -12,70 +14,47 @@ use Rattle.paper.specs.Network.{Network}
 use Rattle.paper.specs.Rules.{amount}
 use Rattle.paper.specs.File.{natural}
 use Rattle.paper.specs.Chains.{All}
-use Rattle.paper.specs.declared.Outcome.TheVariants as outcome
+use Rattle.paper.specs.Limits.{Period, room_for}
+use Rattle.paper.specs.Output.{LoopAlone}
+use Rattle.paper.specs.declared.Rule.{Rule}
+use Rattle.paper.specs.declared.Unanswered.TheVariants as unanswered
 use Rattle.paper.proofs.Legal.{natural_is}
 use Rattle.paper.proofs.LoopLaws.{all_map}
-use Rattle.loops.specs.Arrows.{Arrows, arrows}
+use Rattle.loops.specs.declared.Arrow.{Arrow}
+use Rattle.loops.specs.Arrows.{Arrows, among, arrow_at}
 use Rattle.loops.specs.Family.{Lays}
-use Rattle.loops.specs.RuleFamily.{graph_of}
+use Rattle.loops.specs.RuleFamily as family
 use Rattle.loops.specs.Names.{named}
+use Rattle.loops.proofs.Renamed.{renamed_total}
 use Rattle.loops.specs.Layout.{fixed_places, all_places, rule_count}
-use Rattle.loops.specs.Shape.{Shape}
+use Rattle.loops.specs.Shape.{Shape, Modest}
 use Rattle.loops.specs.Begun.{Extends}
 use Rattle.network.specs.declared.Header.{Header}
-use Rattle.rounds.specs.Relaxation.{Bounded, Starts, Relaxed}
-use Rattle.look.specs.Looking.{Resumable}
-use Rattle.arrows.specs.Filled.{lists, Weighable, Weighed}
+use Rattle.rounds.specs.Relaxation.{Bounded, Continues, Rested, Circled}
+use Rattle.arrows.specs.Filled.{Weighable, Weighed}
 use Rattle.arrows.proofs.Laid.{filled_weighable, weighed_filled, weighed_lays, weighed_extends, laid_shape, laid_highs}
-use Rattle.answer.specs.Records.{Placed, Nameable}
-use Rattle.needs.specs.Raising.{Summable, Raisable, Raised, setups_at}
+use Rattle.answer.specs.Records.{Nameable, Answerable, AnswerBytes}
+use Rattle.needs.specs.Raising.{Summable, Raisable, Raised, sum_at, setups_at}
 use Rattle.needs.proofs.Callers.{Rises, next_rises}
-use Rattle.climb.specs.declared.trial.Tried.{Tried}
-use Rattle.climb.specs.declared.trial.Tried.TheVariants as tried
 use Rattle.climb.specs.Known.{Held, Known, Tries}
-use Rattle.climb.specs.Conclusion.{Concludable, Concluded}
-use Rattle.climb.specs.Trial.{Trial}
+use Rattle.climb.specs.Trial.{Trial, Lent}
 use Rattle.climb.specs.Solved.{Solved}
-use Rattle.climb.proofs.Trials.{trial_answered, trial_setups, trial_over, trial_next}
-use Rattle.paper.specs.Limits.{Period}
-
--- a list that kept its length has room enough still
-pub at_least : {n a b : ℕ} → b ≡ a → n ≤ a → n ≤ b
-at_least e h = rw e h
-
--- the period z may be tried next, with the loop that was found, and nothing was written
-pub record Onward (N : Network) (kinds numbers : List ℕ) (period : ℤ) (ring before after : List ℕ) (z : ℤ) (entries : ℕ) : Type 0 where
-  pub up : natural period < natural z
-  pub tries : Tries N kinds numbers z ring entries
-  pub unwritten : after ≡ before
-
--- what a trial comes to: the search is solved, or a later period is to be tried
-abbrev pub TrialComes : Network → List ℕ → List ℕ → ℤ → List ℕ → List ℕ → List ℕ → Tried → Type 0
-TrialComes N kinds numbers period ring before after (tried.Ends o) = Solved N before o after
-TrialComes N kinds numbers period ring before after (tried.Next z entries) = Onward N kinds numbers period ring before after z entries
+use Rattle.climb.proofs.Trials.{trial_answered, trial_loop, trial_setups, trial_over, trial_next}
 
 -- a loop of rules that stand in memory can be written out
-pub held_nameable : {N : Network} {h : Header} {kinds numbers tails heads : List ℕ} {amounts bases : List ℤ} → Held N h kinds numbers tails heads amounts bases
-    → (ring : List ℕ) (entries : ℕ) → entries ≤ N.registers → h.registers ≤ length ring → All (λ e. e < rule_count N) (take entries ring)
-    → Nameable kinds numbers ring entries
-held_nameable {N} {h} {kinds} {numbers} held ring entries short room exist =
-    let e = held.header.registers in
-    let few = held.legal.registers_to in
-    record { enough = omega arith; few = omega arith; places = all_map placed (take entries ring) exist }
-  where
-    placed : (e : ℕ) → e < rule_count N → Placed kinds numbers e
-    placed e b = record {
-      has_kind = omega (arith, held.filled.room.in_kinds);
-      has_number = omega (arith, held.filled.room.in_numbers);
-      is_kind = held.filled.kinds_are e b;
-    }
+pub held_nameable : {N : Network} {h : Header} {rules : List Rule} {arrows : List Arrow} {bases : List ℤ} → Held N h rules arrows bases
+    → (ring : List ℕ) → length ring ≤ N.registers → All (λ e. e < rule_count N) ring → Nameable rules ring
+held_nameable held ring short exist = record {
+  few = let few = held.legal.registers_to in omega arith;
+  places = all_map (λ e b. omega (arith, held.filled.room.in_rules)) ring exist;
+}
 
-module _ {N : Network} {h : Header} {kinds numbers tails heads : List ℕ} {amounts bases : List ℤ} {period : ℤ} {ring : List ℕ} {kept : ℕ}
-    (t : Trial h kinds numbers tails heads amounts bases period ring kept N) where
+module _ {N : Network} {h : Header} {rules : List Rule} {arrows : List Arrow} {bases : List ℤ} {period : ℤ} {kept : List ℕ}
+    (t : Trial h rules arrows bases period kept N) where
   abbrev P : ℕ
   P = natural period
 
-  abbrev held : Held N h kinds numbers tails heads amounts bases
+  abbrev held : Held N h rules arrows bases
   held = t.known.held
 
   trial_period : Period period
@@ -88,37 +67,42 @@ module _ {N : Network} {h : Header} {kinds numbers tails heads : List ℕ} {amou
       record { from = omega lin; to = omega lin }
 
   -- the amounts may be written at the period
-  pub trial_weighable : Weighable h.registers h.paths period amounts bases
-  trial_weighable =
-      filled_weighable N (lists kinds numbers tails heads) amounts bases held.filled held.legal h.registers h.paths held.header.registers
-      held.header.paths period trial_period
+  pub trial_weighable : Weighable h.registers h.paths period arrows bases
+  trial_weighable = filled_weighable N rules arrows bases held.filled held.legal h.registers h.paths held.header.registers held.header.paths period trial_period
+
+  -- the answer may be written behind a row of one latency a register
+  pub trial_answerable : (row : List ℤ) (out : List ℕ) → length row ≡ h.registers → room_for h.registers ≤ length out → Answerable rules kept row out
+  trial_answerable row out long room =
+      let c = t.tries.climbing.short in
+      let e = held.header.registers in
+      let few = held.legal.registers_to in
+      record { nameable = held_nameable held kept c t.tries.climbing.exist; few = omega arith; room = omega arith }
 
   -- all arrows at the period
-  module _ {after : List ℤ} (w : Weighed (fixed_places h.registers h.paths) h.paths period bases amounts after) where
+  module _ {after : List Arrow} (w : Weighed (fixed_places h.registers h.paths) h.paths period bases arrows after) where
     -- the network is still held
-    pub trial_known : Known N h kinds numbers tails heads after bases
+    pub trial_known : Known N h rules after bases
     trial_known = record {
       held = record {
         legal = held.legal;
         header = held.header;
-        filled =
-            weighed_filled N (lists kinds numbers tails heads) amounts bases held.filled h.registers h.paths held.header.registers held.header.paths period after w;
+        filled = weighed_filled N rules arrows bases held.filled h.registers h.paths held.header.registers held.header.paths period after w;
       };
       some = t.known.some;
     }
 
     module _ {all : ℕ} (counted : all ≡ all_places h.registers h.paths) where
       abbrev Γ : Arrows
-      Γ = arrows h.registers all tails heads after
+      Γ = among h.registers (take all after)
 
-      whole : all ≡ rule_count N
-      whole = let e = held.header.registers in let g = held.header.paths in omega arith
+      stands : all ≡ rule_count N
+      stands = let e = held.header.registers in let g = held.header.paths in omega arith
 
-      lays : Lays (graph_of N) (named kinds numbers) (amount N P) Γ
-      lays =
-          rw whole
-          (weighed_lays N (lists kinds numbers tails heads) amounts bases held.filled h.registers h.paths held.header.registers held.header.paths period
-          after w P t.tries.is)
+      whole : Γ.count ≡ rule_count N
+      whole = let e = stands in let r = trial_known.held.filled.room.in_arrows in omega (arith, length-take-le all after (omega arith))
+
+      lays : Lays (family.graph_of N) (named rules) (amount N P) Γ
+      lays = rw stands (weighed_lays N rules arrows bases held.filled h.registers h.paths held.header.registers held.header.paths period after w P t.tries.is)
 
       small : P ≤ 10000000
       small = let top = held.legal.ceiling_to in let high = t.tries.climbing.to_ceiling in omega arith
@@ -126,126 +110,114 @@ module _ {N : Network} {h : Header} {kinds numbers tails heads : List ℕ} {amou
       -- the arrows are such as a relaxation can work on
       pub trial_shape : Shape Γ
       trial_shape =
-          rw whole
-          (laid_shape N held.legal (lists kinds numbers tails heads) after bases trial_known.held.filled.room h.registers P small held.filled.enumerates (rw whole at lays))
+          rw stands
+          (laid_shape N held.legal rules after bases trial_known.held.filled.room h.registers P small held.filled.enumerates (rw stands at lays))
 
       trial_bounded : Bounded Γ
       trial_bounded =
-          rw whole
-          (laid_highs N held.legal (lists kinds numbers tails heads) after bases trial_known.held.filled.room h.registers P small held.filled.enumerates (rw whole at lays))
+          rw stands
+          (laid_highs N held.legal rules after bases trial_known.held.filled.room h.registers P small held.filled.enumerates (rw stands at lays))
 
-      begins : Extends Γ (arrows h.registers (fixed_places h.registers h.paths) tails heads amounts)
-      begins =
-          rw whole
-          (weighed_extends N (lists kinds numbers tails heads) amounts bases held.filled h.registers h.paths held.header.registers held.header.paths period after w)
+      begins : Extends Γ (among h.registers (take (fixed_places h.registers h.paths) arrows))
+      begins = rw stands (weighed_extends N rules arrows bases held.filled h.registers h.paths held.header.registers held.header.paths period after w)
 
       -- a relaxation of them may go on from the kept row
-      pub trial_starts : {row : List ℤ} {preds : List ℕ} {passed : ℕ} {b : List ℤ}
-          → Resumable (arrows h.registers (fixed_places h.registers h.paths) tails heads amounts) row preds passed
-          → length b ≡ h.registers → Starts Γ row b preds passed
-      trial_starts resumable long = record { shape = trial_shape; bounded = trial_bounded; resumes = resumable Γ begins trial_shape; spare = long }
+      pub trial_continues : {row : List ℤ} {preds : List ℕ} {passed : ℕ} {a b : List ℤ} {p out : List ℕ} → Lent h arrows row preds passed a b p out
+          → Continues Γ row b preds passed a p
+      trial_continues l = record {
+        starts = record { bounded = trial_bounded; resumes = l.resumable Γ begins trial_shape; spare = l.there };
+        row_long = l.here;
+        preds_long = l.noted;
+      }
 
-      -- ---- the relaxation is over
+      -- the relaxation rests: the row is the answer, and what is listed is still the loop that shows why
+      pub trial_rests : {last : List ℤ} {p ring shown before out after : List ℕ} → Rested Γ last p kept ring → shown ≡ ring → out ≡ before
+          → AnswerBytes period last (map (named rules) shown) out after → Solved N before (Ok tt) after
+      trial_rests r listed unwritten bytes =
+          trial_answered N rules t.known.some held.filled.enumerates period Γ whole lays _ (rw (listed ∙ r.kept) t.tries) _ r.rests _ _ (rw unwritten at bytes)
 
-      module _ {last : List ℤ} {p : List ℕ} {entries : ℕ} {loop : List ℕ} (r : Relaxed Γ last p entries ring loop) (room : h.registers ≤ length loop) where
-        same_tries : entries ≡ 0 → Tries N kinds numbers period loop kept
-        same_tries z = rw (r.kept z) t.tries
+      -- ---- a loop is found
 
-        exist : 0 < entries → All (λ e. e < rule_count N) (take entries loop)
-        exist some = all_map (λ e b. let m = whole in omega arith) (take entries loop) (r.circled some).contradicts.exist
+      -- the part that is lent has the arrows of the whole list
+      same : (e : ℕ) → e < rule_count N → arrow_at Γ.list e ≡ arrow_at after e
+      same e b = let m = stands in get_or-take all after e _ (omega arith)
 
-        short : entries ≤ N.registers
-        short = let m = r.room in let e = held.header.registers in omega arith
+      -- and each has the amount of its rule at the period
+      amounts : (e : ℕ) → e < rule_count N → (arrow_at after e).amount ≡ amount N P (named rules e)
+      amounts e b = let s = whole in sym (ap (λ a. a.amount) (same e b)) ∙ lays.amounts e (omega arith)
 
-        setups : 0 < entries → 0 < setups_at kinds numbers (take entries loop)
-        setups some = trial_setups N kinds numbers t.known.some held.filled.enumerates period Γ whole lays loop entries (r.circled some)
+      modest : (e : ℕ) → e < rule_count N → Modest (arrow_at after e).amount
+      modest e b = let s = whole in subst (λ a. Modest a.amount) (same e b) (trial_shape.modest e (omega arith))
 
-        nameable : 0 < entries → Nameable kinds numbers loop entries
-        nameable some = held_nameable held loop entries short room (exist some)
+      module _ {ring : List ℕ} (r : Circled Γ ring) where
+        abbrev loop : List Rule
+        loop = map (named rules) ring
 
-        -- the loop that was found leads to another period
-        pub trial_raisable : 0 < entries → Raisable after kinds period loop entries
-        trial_raisable some = record {
-          allowed = trial_period;
-          enough = (nameable some).enough;
-          few = (nameable some).few;
-          places = all_map summable (take entries loop) (r.circled some).contradicts.exist;
-          over = (r.circled some).contradicts.above;
-          numbers = numbers;
-          some = setups some;
-        }
+        exist : All (λ e. e < rule_count N) ring
+        exist = rw whole at r.shows.contradicts.exist
+
+        short : length ring ≤ N.registers
+        short = let m = r.short in let e = held.header.registers in omega arith
+
+        laid : All (λ e. (arrow_at after e).amount ≡ amount N P (named rules e)) ring
+        laid = all_map amounts ring exist
+
+        over : pos 0 <ℤ sum_at after ring
+        over =
+            rw (renamed_total (λ e. (arrow_at after e).amount) (amount N P) (named rules) ring laid)
+            (trial_loop N rules t.known.some held.filled.enumerates period Γ whole lays ring r.shows).contradicts.above
+
+        setups : 0 < setups_at rules ring
+        setups = trial_setups N rules t.known.some held.filled.enumerates period Γ whole lays ring r.shows
+
+        -- it can be written out
+        pub trial_nameable : Nameable rules ring
+        trial_nameable = held_nameable held ring short exist
+
+        -- it leads to another period
+        pub trial_raisable : Raisable after rules period ring
+        trial_raisable = record { allowed = trial_period; few = trial_nameable.few; places = all_map summable ring exist; over = over; some = setups }
           where
-            summable : (e : ℕ) → e < all → Summable after kinds e
-            summable e b =
-                let m = whole in
-                record {
-                  has_amount = omega (arith, trial_known.held.filled.room.in_amounts);
-                  has_kind = omega (arith, held.filled.room.in_kinds);
-                  modest = trial_shape.modest e b;
-                }
+            summable : (e : ℕ) → e < rule_count N → Summable after rules e
+            summable e b = record {
+              has_arrow = omega (arith, trial_known.held.filled.room.in_arrows);
+              has_rule = omega (arith, held.filled.room.in_rules);
+              modest = modest e b;
+            }
 
-        -- the end of the trial has what it asks for
-        pub trial_concludable : (out : List ℕ) → 14 + 16 * h.registers ≤ length out → Concludable kinds numbers after period loop entries kept last out
-        trial_concludable out enough = record {
-          answerable = λ z.
-              let s = t.tries.climbing.short in
-              let e = held.header.registers in
-              let few = held.legal.registers_to in
-              let long = (r.rested z).long in
+        module _ {next : ℤ} (raised : Raised after rules period ring next) where
+          -- which lies above the one at hand
+          pub trial_rises : Rises N P loop next
+          trial_rises = next_rises N P after rules ring laid setups over period next t.tries.is raised
+
+          -- past the ceiling, none up to it has a schedule, and the loop shows it
+          pub trial_ends : h.ceiling <ℤ next → {shown before out after : List ℕ} → shown ≡ ring → out ≡ before → LoopAlone (map (named rules) shown) out after
+              → Solved N before (Err unanswered.NoneToCeiling) after
+          trial_ends past {shown} {before} {out} {after} listed unwritten bytes =
+              let e = trial_rises.is in
+              let c = held.header.ceiling in
+              trial_over N rules t.known.some held.filled.enumerates period Γ whole lays ring r.shows (natural next) trial_rises.raises (omega lin) before after
+              (subst (λ (b : List ℕ). LoopAlone loop b after) unwritten (subst (λ (l : List ℕ). LoopAlone (map (named rules) l) out after) listed bytes))
+
+          -- every period above the floor may be tried, up to the next one and the ceiling
+          pub trial_tries : (z : ℤ) → z ≤ℤ next → z ≤ℤ h.ceiling → h.floor <ℤ z → Tries N rules z ring
+          trial_tries z to high low =
+              let e = trial_rises.is in
+              let f = held.header.floor in
+              let c = held.header.ceiling in
+              let is : z ≡ pos (natural z) = sym (natural_is z (omega lin)) in
               record {
-                nameable = held_nameable held loop kept s room (same_tries z).climbing.exist;
-                few = omega arith;
-                room = omega arith;
-              };
-          nameable = nameable;
-          raisable = trial_raisable;
-          room = let m = r.room in omega arith;
-        }
+                is = is;
+                climbing =
+                    trial_next N rules t.known.some held.filled.enumerates period Γ whole lays ring r.shows (natural next) (natural z) trial_rises.raises
+                    (omega lin) (omega lin) (omega lin) short;
+              }
 
-        -- the next period that it leads to lies above the one at hand
-        pub trial_rises : 0 < entries → (z : ℤ) → Raised after kinds period (take entries loop) z → Rises N P (map (named kinds numbers) (take entries loop)) z
-        trial_rises some z raised =
-            next_rises N P after kinds numbers (take entries loop) (all_map lays.amounts (take entries loop) (r.circled some).contradicts.exist) (setups some)
-            (r.circled some).contradicts.above period z t.tries.is raised
-
-        -- every period above the floor may be tried, up to the next one and the ceiling
-        pub trial_tries : 0 < entries → (next z : ℤ) → Raised after kinds period (take entries loop) next → z ≤ℤ next → z ≤ℤ pos N.ceiling → pos N.floor <ℤ z
-            → Tries N kinds numbers z loop entries
-        trial_tries some next z raised to high low =
-            let rise = trial_rises some next raised in
-            let e = rise.is in
-            let is : z ≡ pos (natural z) = sym (natural_is z (omega lin)) in
-            record {
-              is = is;
-              climbing =
-                  trial_next N kinds numbers t.known.some held.filled.enumerates period Γ whole lays loop entries (r.circled some) (natural next) (natural z) rise.raises
-                  (omega lin) (omega lin) (omega lin) short;
-            }
-
-        -- each of its ends, in the paper's words
-        pub trial_comes : (ceiling : ℤ) → ceiling ≡ h.ceiling → (before out : List ℕ) (o : Tried)
-            → Concluded kinds numbers after period loop entries kept ceiling last before out o → TrialComes N kinds numbers period loop before out o
-        trial_comes ceiling top before out (tried.Ends outcome.Answered) d =
-            trial_answered N kinds numbers t.known.some held.filled.enumerates period Γ whole lays loop kept (same_tries d.none) last (r.rested d.none) before out d.bytes
-        trial_comes ceiling top before out (tried.Ends outcome.NoneToCeiling) d =
-            let rise = trial_rises d.some d.next d.raised in
-            let e = rise.is in
-            let c = held.header.ceiling in
-            let over = d.over in
-            trial_over N kinds numbers t.known.some held.filled.enumerates period Γ whole lays loop entries (r.circled d.some) (natural d.next) rise.raises (omega lin) before out
-            d.bytes
-        trial_comes ceiling top before out (tried.Ends outcome.NoPeriod) d = absurd d
-        trial_comes ceiling top before out (tried.Ends outcome.Room) d = absurd d
-        trial_comes ceiling top before out (tried.Ends (outcome.Refused x)) d = absurd d
-        trial_comes ceiling top before out (tried.Next z found) d =
-            let rise = trial_rises d.some z d.raised in
-            let e = rise.is in
-            let up = rise.raises.up in
-            let low = t.tries.climbing.from_floor in
-            let c = held.header.ceiling in
-            let to = d.to in
-            record {
-              up = up;
-              tries = rw d.all (trial_tries d.some z z d.raised (omega lin) (omega lin) (omega lin));
-              unwritten = d.unwritten;
-            }
+          -- so the next one may, where it is not past the ceiling
+          pub trial_onward : next ≤ℤ h.ceiling → Tries N rules next ring
+          trial_onward to =
+              let e = trial_rises.is in
+              let up = trial_rises.raises.up in
+              let f = held.header.floor in
+              let low = t.tries.climbing.from_floor in
+              trial_tries next (omega lin) to (omega lin)

@@ -3,82 +3,75 @@
 use mathlib.Core.Path.{◌≡◌, refl}
 use mathlib.Core.Logic.{◌⊎◌, inl, inr}
 use mathlib.Core.List.{List, []}
-use Prim.Native.Nat.{ℕ, ◌≤◌, ◌<◌}
-use native.Mathlib.Omega.{arith}
-use lib.ListN.{length}
+use Prim.Native.Nat.{ℕ, ◌<◌}
+use mir.Syntax.{w32}
+use mir.Val.{to_z, of_z}
+use mir.Facts.{to_z-of_z}
+use lib.ListN.{length, take}
 use lib.IntN.{ℤ}
 use lib.Signed.{◌≤ℤ◌, ◌<ℤ◌}
 use Rattle.whole.proofs.Lin.{lin}
 use Rattle.paper.specs.Network.{Network}
 use Rattle.paper.specs.File.{natural}
-use Rattle.loops.specs.Arrows.{Arrows, arrows}
-use Rattle.loops.specs.RuleFamily.{rules}
+use Rattle.paper.specs.declared.Rule.{Rule}
+use Rattle.loops.specs.declared.Arrow.{Arrow}
+use Rattle.loops.specs.Arrows.{among}
+use Rattle.loops.specs.RuleFamily as family
 use Rattle.loops.specs.Names.{named}
 use Rattle.loops.specs.Layout.{fixed_places, all_places, rule_count}
 use Rattle.loops.proofs.Climbs.{climbing_floor}
 use Rattle.loops.proofs.Rules.{rules_lawful}
 use Rattle.network.specs.declared.Header.{Header}
-use Rattle.rounds.specs.Relaxation.{Relaxed}
+use Rattle.rounds.specs.Relaxation.{Circled}
 use Rattle.guess.specs.Guessing.{Guessed}
 use Rattle.arrows.specs.Filled.{Weighed}
 use Rattle.needs.specs.Raising.{Raisable}
 use Rattle.climb.specs.Known.{Known, Tries}
 use Rattle.climb.specs.Begin.{Led}
 use Rattle.climb.specs.Trial.{Trial}
-use Rattle.climb.proofs.Attempts.{trial_raisable, trial_rises, trial_tries}
+use Rattle.climb.proofs.Attempts.{trial_raisable, trial_tries, trial_onward}
 
-guessed_relaxed : {Γ : Arrows} {ring : List ℕ} {entries : ℕ} → Guessed Γ ring entries → 0 < entries → Relaxed Γ [] [] entries ring ring
-guessed_relaxed g some = record {
-  rested = λ e. absurd (omega arith);
-  ready = λ e. absurd (omega arith);
-  kept = λ e. refl;
-  circled = λ h. record { contradicts = g.contradicts h; listed = g.listed h };
-  room = g.short;
-}
+module _ {N : Network} {h : Header} {rules : List Rule} {arrows : List Arrow} {bases : List ℤ} (known : Known N h rules arrows bases) where
+  floor_natural : natural h.floor ≡ N.floor
+  floor_natural = rw known.held.header.floor refl
 
-module _ {N : Network} {h : Header} {kinds numbers tails heads : List ℕ} {amounts bases : List ℤ} (known : Known N h kinds numbers tails heads amounts bases)
-    {floor : ℤ} (same : floor ≡ h.floor) where
-  floor_natural : natural floor ≡ N.floor
-  floor_natural = rw (same, known.held.header.floor) refl
+  -- floor and ceiling are numbers of 32 bits
+  pub floor_kept : to_z w32 (of_z w32 h.floor) ≡ h.floor
+  floor_kept =
+      let e = known.held.header.floor in
+      let b = known.held.legal.ceiling_from in
+      let top = known.held.legal.ceiling_to in
+      to_z-of_z {w = w32} (omega lin)
+
+  pub ceiling_kept : to_z w32 (of_z w32 h.ceiling) ≡ h.ceiling
+  ceiling_kept = let e = known.held.header.ceiling in let top = known.held.legal.ceiling_to in to_z-of_z {w = w32} (omega lin)
 
   -- the floor may be tried, and no loop is shown there
-  pub floor_trial : (ring : List ℕ) → Trial h kinds numbers tails heads amounts bases floor ring 0 N
-  floor_trial ring = record {
+  pub floor_trial : Trial h rules arrows bases h.floor [] N
+  floor_trial = record {
     known = known;
     tries = record {
-      is = rw (same, known.held.header.floor) refl;
-      climbing =
-          rw floor_natural (climbing_floor (rules N) (rules_lawful N) (named kinds numbers) (rule_count N) N.floor N.ceiling ring known.held.legal.ceiling_from);
+      is = rw known.held.header.floor refl;
+      climbing = rw floor_natural (climbing_floor (family.rules N) (rules_lawful N) (named rules) (rule_count N) N.floor N.ceiling known.held.legal.ceiling_from);
     };
   }
 
-  module _ {after : List ℤ} (w : Weighed (fixed_places h.registers h.paths) h.paths floor bases amounts after) {all : ℕ}
-      (counted : all ≡ all_places h.registers h.paths) {loop : List ℕ} {entries : ℕ} (g : Guessed (arrows h.registers all tails heads after) loop entries)
-      (room : h.registers ≤ length loop) where
+  module _ {after : List Arrow} (w : Weighed (fixed_places h.registers h.paths) h.paths h.floor bases arrows after) {all : ℕ}
+      (counted : all ≡ all_places h.registers h.paths) {loop : List ℕ} (g : Guessed (among h.registers (take all after)) loop) where
+    found : 0 < length loop → Circled (among h.registers (take all after)) loop
+    found some = record { shows = record { contradicts = g.contradicts some; listed = g.listed some }; short = g.short }
+
     -- a guessed loop leads to another period
-    pub guessed_raisable : 0 < entries → Raisable after kinds floor loop entries
-    guessed_raisable some = trial_raisable (floor_trial loop) w counted (guessed_relaxed g some) room some
+    pub guessed_raisable : 0 < length loop → Raisable after rules h.floor loop
+    guessed_raisable some = trial_raisable floor_trial w counted (found some)
 
     -- the climb may begin where it leads
-    pub led_tries : (ceiling : ℤ) → ceiling ≡ h.ceiling → (period : ℤ) (kept : ℕ) → Led after kinds loop entries floor ceiling period kept → Tries N kinds numbers period loop kept
-    led_tries ceiling top period kept (inl at_floor) = rw (at_floor.0, at_floor.1) (floor_trial loop).tries
-    led_tries ceiling top period kept (inr l) = rw l.all (lower l.lower)
+    pub led_tries : (period : ℤ) (ring : List ℕ) → Led after rules loop h.floor h.ceiling period ring → Tries N rules period ring
+    led_tries period ring (inl at_floor) = rw (at_floor.0, at_floor.1) floor_trial.tries
+    led_tries period ring (inr l) = rw l.kept (lower l.lower)
       where
-        found : Relaxed (arrows h.registers all tails heads after) [] [] entries loop loop
-        found = guessed_relaxed g l.some
-
-        lower : ((l.next ≤ℤ ceiling) × (period ≡ l.next)) ⊎ ((ceiling <ℤ l.next) × (period ≡ ceiling)) → Tries N kinds numbers period loop entries
-        lower (inl x) =
-            let rise = trial_rises (floor_trial loop) w counted found room l.some l.next l.raised in
-            let e = rise.is in
-            let up = rise.raises.up in
-            let f = floor_natural in
-            let c = known.held.header.ceiling in
-            let to = x.0 in
-            rw x.1 (trial_tries (floor_trial loop) w counted found room l.some l.next l.next l.raised (omega lin) (omega lin) (omega lin))
+        lower : ((l.next ≤ℤ h.ceiling) × (period ≡ l.next)) ⊎ ((h.ceiling <ℤ l.next) × (period ≡ h.ceiling)) → Tries N rules period loop
+        lower (inl x) = rw x.1 (trial_onward floor_trial w counted (found l.some) l.raised x.0)
         lower (inr x) =
-            let a = l.apart in
-            let f = known.held.header.floor in
-            let c = known.held.header.ceiling in
             let over = x.0 in
-            rw x.1 (trial_tries (floor_trial loop) w counted found room l.some l.next ceiling l.raised (omega lin) (omega lin) (omega lin))
+            rw x.1 (trial_tries floor_trial w counted (found l.some) l.raised h.ceiling (omega lin) (omega lin) l.apart)

@@ -1,22 +1,23 @@
 -- A relaxation at the period that is tried, and each of its ends, in the paper's words. Rests on `Families`, `Climbs` and `Rules` of `loops`.
+use Rattle.std.specs.Prelude.{Ok, Err}
 use mathlib.Core.Path.{◌≡◌, sym, subst, ◌∙◌}
 use mathlib.Core.List.{List, ◌++◌, map}
 use Prim.Native.Nat.{ℕ, ◌-◌, ◌≤◌, ◌<◌}
 use native.Mathlib.Omega.{arith}
 use native.Mathlib.Decide.{ℕ_discrete}
-use lib.ListN.{length, take}
+use lib.ListN.{length}
 use lib.IntN.{ℤ, pos}
 use Rattle.paper.specs.Network.{Network}
-use Rattle.paper.specs.Rules.{Rule, amount}
+use Rattle.paper.specs.declared.Rule.{Rule}
+use Rattle.paper.specs.Rules.{amount}
 use Rattle.paper.specs.File.{natural}
-use Rattle.paper.specs.Schedule.{setups}
 use Rattle.paper.specs.Output.{Front, LoopAlone, skew_record, latency_records, entry_records}
-use Rattle.paper.specs.declared.Outcome.TheVariants as outcome
+use Rattle.paper.specs.declared.Unanswered.TheVariants as unanswered
 use Rattle.loops.specs.Arrows.{Arrows}
 use Rattle.loops.specs.Webs.{Scheduled}
 use Rattle.loops.specs.Family.{Enumerates, Lays, Refutes, web_at}
 use Rattle.loops.specs.Climbing.{Raises, Climbing}
-use Rattle.loops.specs.RuleFamily.{graph_of, rules}
+use Rattle.loops.specs.RuleFamily as family
 use Rattle.loops.specs.Names.{named}
 use Rattle.loops.specs.Layout.{rule_count}
 use Rattle.loops.specs.Model.{at}
@@ -25,6 +26,7 @@ use Rattle.loops.proofs.Climbs.{climbing_at, climbing_answers, trial_refutes, re
 use Rattle.loops.proofs.Rules.{rules_lawful, fixed_setups, best_answer, shown_rules, refutes_rules, none_rules, some_rules}
 use Rattle.rounds.specs.Relaxation.{Rests, ShowsLoop}
 use Rattle.answer.specs.Records.{AnswerBytes}
+use Rattle.needs.specs.Raising.{setups_at}
 use Rattle.climb.specs.Known.{Tries}
 use Rattle.climb.specs.Solved.{Solved}
 
@@ -34,59 +36,59 @@ answer_bytes : {P n : ℕ} {period : ℤ} {names : List ℤ} {loop : List Rule} 
 answer_bytes {P} {n} {period} {names} {loop} {before} {after} is long bytes =
     subst (λ (m : ℕ). Front (skew_record P m (length loop) ++ latency_records (at names) m ++ entry_records loop) before after) long (rw is at bytes).front
 
-module _ (N : Network) (kinds numbers : List ℕ) (some : (Q : ℕ) × Scheduled (web_at (rules N) Q)) (names : Enumerates (graph_of N) (named kinds numbers) (rule_count N)) (period : ℤ)
-    (Γ : Arrows) (whole : Γ.count ≡ rule_count N) (lays : Lays (graph_of N) (named kinds numbers) (amount N (natural period)) Γ) where
+module _ (N : Network) (rules : List Rule) (some : (Q : ℕ) × Scheduled (web_at (family.rules N) Q))
+    (names : Enumerates (family.graph_of N) (named rules) (rule_count N)) (period : ℤ)
+    (Γ : Arrows) (whole : Γ.count ≡ rule_count N) (lays : Lays (family.graph_of N) (named rules) (amount N (natural period)) Γ) where
   -- the period that is tried
   abbrev P : ℕ
   P = natural period
 
   -- the row rests: it is the answer
-  pub trial_answered : (ring : List ℕ) (kept : ℕ) → Tries N kinds numbers period ring kept → (times : List ℤ) → Rests Γ times → (before after : List ℕ)
-      → AnswerBytes period times (map (named kinds numbers) (take kept ring)) before after → Solved N before outcome.Answered after
-  trial_answered ring kept t times r before after bytes =
+  pub trial_answered : (ring : List ℕ) → Tries N rules period ring → (times : List ℤ) → Rests Γ times → (before after : List ℕ)
+      → AnswerBytes period times (map (named rules) ring) before after → Solved N before (Ok tt) after
+  trial_answered ring t times r before after bytes =
       let c = t.climbing in
       record {
         period = P;
         latency = at times;
-        loop = map (named kinds numbers) (take kept ring);
+        loop = map (named rules) ring;
         answer =
             best_answer N P (at times)
-            (climbing_answers (rules N) (rules_lawful N) (named kinds numbers) (rule_count N) N.floor N.ceiling P Γ whole names lays ring kept c (at times) r.least);
-        shown = shown_rules N P (map (named kinds numbers) (take kept ring)) c.shown;
+            (climbing_answers (family.rules N) (rules_lawful N) (named rules) (rule_count N) N.floor N.ceiling P Γ whole names lays ring c (at times) r.least);
+        shown = shown_rules N P (map (named rules) ring) c.shown;
         bytes = answer_bytes t.is (r.long ∙ lays.registers) bytes;
       }
 
   -- a loop was found
-  module _ (ring : List ℕ) (entries : ℕ) (s : ShowsLoop Γ (take entries ring)) where
-    abbrev loop : List ℕ
-    loop = take entries ring
+  module _ (ring : List ℕ) (s : ShowsLoop Γ ring) where
+    abbrev loop : List Rule
+    loop = map (named rules) ring
 
     -- the loop contradicts itself at the period
-    trial_loop : Refutes (rules N) P (map (named kinds numbers) (take entries ring))
+    pub trial_loop : Refutes (family.rules N) P loop
     trial_loop =
-        trial_refutes (rules N) (rules_lawful N) (named kinds numbers) (rule_count N) N.floor N.ceiling P Γ whole names lays (take entries ring) s.contradicts s.listed
+        trial_refutes (family.rules N) (rules_lawful N) (named rules) (rule_count N) N.floor N.ceiling P Γ whole names lays ring s.contradicts s.listed
 
     -- some period has a schedule, so a loop without setup rules cannot contradict itself: this one has a setup rule
-    pub trial_setups : 0 < setups (map (named kinds numbers) (take entries ring))
-    trial_setups = go (ℕ_discrete (setups (map (named kinds numbers) (take entries ring))) 0)
+    pub trial_setups : 0 < setups_at rules ring
+    trial_setups = go (ℕ_discrete (setups_at rules ring) 0)
       where
-        go : Dec (setups (map (named kinds numbers) (take entries ring)) ≡ 0) → 0 < setups (map (named kinds numbers) (take entries ring))
-        go (yes e) =
-            absurd (refutes_unfixed (rules N) (rules_lawful N) some P (map (named kinds numbers) (take entries ring)) trial_loop ((fixed_setups (map (named kinds numbers) (take entries ring))).1 e))
+        go : Dec (setups_at rules ring ≡ 0) → 0 < setups_at rules ring
+        go (yes e) = absurd (refutes_unfixed (family.rules N) (rules_lawful N) some P loop trial_loop ((fixed_setups loop).1 e))
         go (no e) = omega arith
 
     -- the next period is above the ceiling: none up to the ceiling
-    pub trial_over : (Q : ℕ) → Raises (rules N) P (map (named kinds numbers) (take entries ring)) Q → N.ceiling < Q → (before after : List ℕ)
-        → LoopAlone (map (named kinds numbers) (take entries ring)) before after → Solved N before outcome.NoneToCeiling after
+    pub trial_over : (Q : ℕ) → Raises (family.rules N) P loop Q → N.ceiling < Q → (before after : List ℕ)
+        → LoopAlone loop before after → Solved N before (Err unanswered.NoneToCeiling) after
     trial_over Q up over before after bytes =
-        let r = raised_refutes (rules N) (rules_lawful N) P Q N.ceiling (map (named kinds numbers) (take entries ring)) trial_loop up over in (
-          none_rules N (some_rules N some) (refutes_none_to (rules N) (rules_lawful N) N.ceiling (map (named kinds numbers) (take entries ring)) r),
-          record { loop = map (named kinds numbers) (take entries ring); refutes = (refutes_rules N N.ceiling (map (named kinds numbers) (take entries ring))).0 r; bytes = bytes },
+        let r = raised_refutes (family.rules N) (rules_lawful N) P Q N.ceiling loop trial_loop up over in (
+          none_rules N (some_rules N some) (refutes_none_to (family.rules N) (rules_lawful N) N.ceiling loop r),
+          record { loop = loop; refutes = (refutes_rules N N.ceiling loop).0 r; bytes = bytes },
         )
 
     -- or any period up to it may be tried, above the floor
-    pub trial_next : (Q R : ℕ) → Raises (rules N) P (map (named kinds numbers) (take entries ring)) Q → R ≤ Q → N.floor < R → R ≤ N.ceiling → entries ≤ N.registers
-        → Climbing (rules N) (named kinds numbers) (rule_count N) N.floor N.ceiling R ring entries
+    pub trial_next : (Q R : ℕ) → Raises (family.rules N) P loop Q → R ≤ Q → N.floor < R → R ≤ N.ceiling → length ring ≤ N.registers
+        → Climbing (family.rules N) (named rules) (rule_count N) N.floor N.ceiling R ring
     trial_next Q R up to low high short =
-        climbing_at (rules N) (rules_lawful N) (named kinds numbers) (rule_count N) N.floor N.ceiling R ring entries low high short (rw (sym whole) s.contradicts.exist)
-        (raised_refutes (rules N) (rules_lawful N) P Q (R - 1) (map (named kinds numbers) (take entries ring)) trial_loop up (omega arith))
+        climbing_at (family.rules N) (rules_lawful N) (named rules) (rule_count N) N.floor N.ceiling R ring low high short (rw (sym whole) s.contradicts.exist)
+        (raised_refutes (family.rules N) (rules_lawful N) P Q (R - 1) loop trial_loop up (omega arith))

@@ -1,80 +1,58 @@
 // Where the climb begins. A loop that contradicts itself at the floor shows that no period below the next one that it leads to has a schedule,
 // so the climb may begin there. Nothing that is promised rests on which loop is guessed: another one, or none, only makes the climb longer
 // or shorter.
-ghost use Rattle.std.specs.Prelude.{◌<◌};
+ghost use Rattle.std.specs.Prelude.{◌<◌, length};
 ghost use Rattle.needs.specs.Raising.{Raisable};
 ghost use Rattle.climb.specs.Begin.{Beginnings, Begun, Led};
 
+use arrayvec::ArrayVec;
 use arrows::at_period;
 use guess::guess;
+use loops::{Arrow, Graph};
 use network::Header;
+use paper::Rule;
+use paper::limits::MOST_REGISTERS;
+use places::Places;
 
-// The period that is tried first, and how many entries the loop has that shows why.
-#[derive(Clone, Copy)]
-pub struct Start {
-    pub period: i32,
-    pub kept: usize,
-}
-
-// The period that the loop leads to, or the ceiling where that is lower; the floor where there is no loop.
+// The period that the listed loop leads to, or the ceiling where that is lower; the floor, and an empty list, where there is no loop. Where floor
+// and ceiling are one, there is no other period to try, and at the floor no loop is shown.
 fn lead(
-    amount: &[i32],
-    kind: &[u8],
-    ring: &[u16],
-    entries: usize,
-    floor: i32,
-    ceiling: i32,
-) -> Start
-    requires { 0 < entries → Raisable amount.now kind.now floor ring.now entries }
-    ensures { Led amount.now kind.now ring.now entries floor ceiling result.period result.kept }
+    h: Header,
+    rules: &[Rule],
+    arrows: &[Arrow],
+    ring: &mut ArrayVec<u16, MOST_REGISTERS>,
+) -> i32
+    requires { 0 < length ring.old.items → Raisable arrows.now rules.now h.floor ring.old.items }
+    ensures { Led arrows.now rules.now ring.old.items h.floor h.ceiling result ring.new.items }
 {
-    if entries == 0 {
-        return Start {
-            period: floor,
-            kept: 0,
-        };
+    if ring.is_empty() || h.ceiling <= h.floor {
+        ring.clear();
+        return h.floor;
     }
-    if floor < ceiling {
-        let above = needs::next(amount, kind, floor, ring, entries);
-        if ceiling < above {
-            return Start {
-                period: ceiling,
-                kept: entries,
-            };
-        }
-        return Start {
-            period: above,
-            kept: entries,
-        };
-    }
-    // Floor and ceiling are one: there is no other period to try, and at the floor no loop is shown.
-    Start {
-        period: floor,
-        kept: 0,
-    }
+    needs::next(arrows, rules, h.floor, ring).min(h.ceiling)
 }
 
-// Guesses a loop among the rules at the floor, and begins where it leads.
+// Guesses a loop among the rules at the floor, and answers the period where it leads: the first to try, with the loop that shows why in `ring`.
 pub fn begin(
     h: Header,
-    kind: &[u8],
-    tail: &[u16],
-    head: &[u16],
-    amount: &mut [i32],
+    rules: &[Rule],
+    arrows: &mut [Arrow],
     base: &[i32],
     preds: &mut [u16],
-    ring: &mut [u16],
-) -> Start
-    requires { Beginnings h kind.now tail.now head.now amount.old base.now preds.old ring.old }
-    ensures { Begun h kind.now tail.now head.now amount.old amount.new base.now ring.new result.period result.kept }
+    ring: &mut ArrayVec<u16, MOST_REGISTERS>,
+) -> i32
+    requires { Beginnings h rules.now arrows.old base.now preds.old }
+    ensures { Begun h rules.now arrows.old arrows.new base.now ring.new.items result }
 {
-    let n = h.registers;
-    let m = h.paths;
-    let floor = h.floor;
-    let ceiling = h.ceiling;
-    let fixed = places::fixed(n, m);
-    let all = places::all(n, m);
-    at_period(n, m, floor, amount, base);
-    let entries = guess(tail, head, amount, n, all, fixed, preds, ring);
-    lead(amount, kind, ring, entries, floor, ceiling)
+    let places = Places {
+        registers: h.registers,
+        paths: h.paths,
+    };
+    at_period(places, h.floor, arrows, base);
+    let graph = Graph {
+        registers: h.registers,
+        arrows: &arrows[..places.all()],
+    };
+    guess(graph, places.fixed(), preds, ring);
+    lead(h, rules, arrows, ring)
 }

@@ -14,7 +14,8 @@
 // standard error and stops.
 #![tactic(auto)]
 
-use paper::Reply;
+use paper::codes::Numbered;
+use std::fmt;
 use std::io::{Read, Stdin};
 
 // The standard streams by their numbers.
@@ -22,91 +23,74 @@ const STDIN_FILENO: i32 = 0;
 
 const STDOUT_FILENO: i32 = 1;
 
-const STDERR_FILENO: i32 = 2;
-
 const FILE_ROOM: usize = 65536;
 
 const OUT_ROOM: usize = 8192;
 
-// No place and no number is as large as these. One that were would be written as -1.
-const PLACES: usize = 65536;
-
-const NUMBERS: u32 = 65536;
-
-// Says why no more is answered; false is what stops the requests.
-fn stop(why: &[u8]) -> bool {
-    io::write_all(STDERR_FILENO, why);
-    false
+// Why no more is answered.
+#[derive(Clone, Copy, PartialEq, Eq, Debug)]
+enum Stop {
+    CutShort,
+    Unreadable,
+    Unknown,
+    Unwritable,
 }
 
-fn cut_short() -> bool {
-    stop(b"exam: standard input ends or fails within a request\n")
+impl fmt::Display for Stop {
+    fn fmt<W: fmt::Write>(&self, f: &mut fmt::Formatter<W>) -> fmt::Result {
+        f.write_str(match self {
+            Stop::CutShort => "standard input ends or fails within a request",
+            Stop::Unreadable =>
+                "standard input cannot be read; a non-blocking one cannot be waited for",
+            Stop::Unknown => "a request begins with neither S nor Q",
+            Stop::Unwritable => "standard output cannot be written",
+        })
+    }
 }
 
-fn wide(z: i32) -> isize {
-    z as isize
-}
-
-fn place_of(p: usize) -> i32 {
-    if p < PLACES { p as i32 } else { -1 }
-}
-
-fn number_of(n: u32) -> i32 {
-    if n < NUMBERS { n as i32 } else { -1 }
-}
-
-// The pattern that what is left untouched can be told by. Before each turn the bytes before i have it.
+// The pattern that what is left untouched can be told by.
 fn fill(out: &mut [u8]) {
-    let mut i = 0;
-    while i < out.len() {
-        out[i] = ((i % 256 * 7 + 165) % 256) as u8;
-        i += 1;
+    for (i, byte) in out.iter_mut().enumerate() {
+        *byte = ((i % 256 * 7 + 165) % 256) as u8;
     }
 }
 
-// Writes a part of an answer, and answers whether to go on.
-fn put(bytes: &[u8]) -> bool {
+// Reads a part of a request.
+fn take(bytes: &mut [u8]) -> Result<(), Stop> {
+    if io::read_full(STDIN_FILENO, bytes) == bytes.len() {
+        Ok(())
+    } else {
+        Err(Stop::CutShort)
+    }
+}
+
+// Writes a part of an answer.
+fn put(bytes: &[u8]) -> Result<(), Stop> {
     if io::write_all(STDOUT_FILENO, bytes) {
-        return true;
+        Ok(())
+    } else {
+        Err(Stop::Unwritable)
     }
-    stop(b"exam: standard output cannot be written\n")
 }
 
-fn report(number: i32, place: i32) -> bool {
+// No number and no place is too large for its four bytes. One that were would be written as -1.
+fn report<R: Numbered>(r: &R) -> Result<(), Stop> {
     let mut head = [0u8; 8];
-    whole::put_number(&mut head, 0, number);
-    whole::put_number(&mut head, 4, place);
+    whole::put_number(&mut head, 0, i32::try_from(r.number()).unwrap_or(-1));
+    whole::put_number(&mut head, 4, i32::try_from(r.place()).unwrap_or(-1));
     put(&head)
 }
 
-// The file fills what it was given room for. Answers whether to go on, as all that follow do.
-fn schedule(file: &mut [u8], out: &mut [u8]) -> bool {
-    if io::read_full(STDIN_FILENO, file) != file.len() {
-        return cut_short();
-    }
+// The file fills what it was given room for.
+fn schedule(file: &mut [u8], out: &mut [u8]) -> Result<(), Stop> {
+    take(file)?;
     fill(out);
-    let o = skew::schedule::schedule(file, out);
-    let number = number_of(paper::codes::outcome_number(o));
-    let place = place_of(paper::codes::outcome_place(o));
-    report(number, place) && put(out)
+    report(&skew::schedule::schedule(file, out))?;
+    put(out)
 }
 
-// RULES 15.5: "A refusal carries no slack."
-fn put_slack(r: Reply) -> bool {
-    match r {
-        Reply::Slack(s) => {
-            let mut last = [0u8; 4];
-            whole::put_number(&mut last, 0, s.0);
-            put(&last)
-        }
-        Reply::Refused(_) => true,
-    }
-}
-
-fn ask(file: &mut [u8], head: &[u8; 24]) -> bool {
-    if io::read_full(STDIN_FILENO, file) != file.len() {
-        return cut_short();
-    }
+fn ask(file: &mut [u8], head: &[u8; 24]) -> Result<(), Stop> {
+    take(file)?;
     let r = skew::question::question(
         file,
         whole::number(head, 0),
@@ -115,62 +99,63 @@ fn ask(file: &mut [u8], head: &[u8; 24]) -> bool {
         whole::number(head, 12),
         whole::number(head, 16),
     );
-    let number = number_of(paper::codes::reply_number(r));
-    let place = place_of(paper::codes::reply_place(r));
-    report(number, place) && put_slack(r)
+    report(&r)?;
+    // RULES 15.5: "A refusal carries no slack."
+    match r {
+        Ok(slack) => put(&slack.0.to_le_bytes()),
+        Err(_) => Ok(()),
+    }
 }
 
-fn serve_schedule(file: &mut [u8], out: &mut [u8]) -> bool {
+// Kept: a cast, for no `From` widens an i32 to an isize.
+fn wide(z: i32) -> isize {
+    z as isize
+}
+
+fn serve_schedule(file: &mut [u8], out: &mut [u8]) -> Result<(), Stop> {
     let mut head = [0u8; 8];
-    if io::read_full(STDIN_FILENO, &mut head) != 8 {
-        return cut_short();
-    }
+    take(&mut head)?;
     let room = io::count(wide(whole::number(&head, 0)), out);
     let length = io::count(wide(whole::number(&head, 4)), file);
     schedule(&mut file[..length], &mut out[..room])
 }
 
-fn serve_question(file: &mut [u8]) -> bool {
+fn serve_question(file: &mut [u8]) -> Result<(), Stop> {
     let mut head = [0u8; 24];
-    if io::read_full(STDIN_FILENO, &mut head) != 24 {
-        return cut_short();
-    }
+    take(&mut head)?;
     let length = io::count(wide(whole::number(&head, 20)), file);
     ask(&mut file[..length], &head)
 }
 
-// One request. A read at the end of the input gives no byte.
-fn serve(input: &mut Stdin, file: &mut [u8], out: &mut [u8]) -> bool {
-    let mut tag = [0u8; 1];
-    match input.read(&mut tag) {
-        Err(_) => {
-            return stop(
-                b"exam: standard input cannot be read; a non-blocking one cannot be waited for\n",
-            );
-        }
-        Ok(0) => return false,
-        Ok(_) => {}
+// The letter that a request begins with; none at the end of the input, where a read gives no byte.
+fn letter(input: &mut Stdin) -> Result<Option<u8>, Stop> {
+    let mut first = [0u8; 1];
+    match input.read(&mut first) {
+        Ok(0) => Ok(None),
+        Ok(_) => Ok(Some(first[0])),
+        Err(_) => Err(Stop::Unreadable),
     }
-    if tag[0] == b'S' {
-        return serve_schedule(file, out);
-    }
-    if tag[0] == b'Q' {
-        return serve_question(file);
-    }
-    stop(b"exam: a request begins with neither S nor Q\n")
 }
 
 // Requests until the input ends, and never more than a 64-bit count of them.
-fn serve_all(input: &mut Stdin, file: &mut [u8], out: &mut [u8]) {
-    let mut turns = u64::MAX;
-    while turns > 0 && serve(input, file, out) {
-        turns -= 1;
+fn serve_all(input: &mut Stdin, file: &mut [u8], out: &mut [u8]) -> Result<(), Stop> {
+    for _ in 0..u64::MAX {
+        match letter(input)? {
+            None => break,
+            Some(b'S') => serve_schedule(file, out)?,
+            Some(b'Q') => serve_question(file)?,
+            Some(_) => return Err(Stop::Unknown),
+        }
     }
+    Ok(())
 }
 
 fn main(rt: HostRuntime) {
     let mut input = rt.stdin();
     let mut file = [0u8; FILE_ROOM];
     let mut out = [0u8; OUT_ROOM];
-    serve_all(&mut input, &mut file, &mut out);
+    if let Err(stop) = serve_all(&mut input, &mut file, &mut out) {
+        // Where standard error cannot be written either, nothing is left to say it on.
+        let _ = eprintln!(rt; "exam: {stop}");
+    }
 }

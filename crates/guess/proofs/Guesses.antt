@@ -3,41 +3,39 @@
 use mathlib.Core.Path.{◌≡◌}
 use mathlib.Core.Bool.{false}
 use mathlib.Core.List.{List}
-use Prim.Native.Nat.{ℕ, ◌≤◌, ◌<◌}
+use Prim.Native.Nat.{ℕ, ◌-◌, ◌<◌}
 use native.Mathlib.Omega.{arith}
-use lib.ListN.{length, take}
 use lib.IntN.{pos}
 use lib.Signed.{◌<ℤ◌}
-use Rattle.whole.specs.Sums.{total}
 use Rattle.paper.specs.Chains.{All}
-use Rattle.paper.proofs.LoopLaws.{all_map}
-use Rattle.loops.specs.Arrows.{Arrows, amount}
+use Rattle.loops.specs.Arrows.{Arrows}
 use Rattle.loops.specs.Model.{rooted, back, circle_from}
 use Rattle.loops.specs.Shape.{Shape}
 use Rattle.loops.proofs.Grounded.{back_below}
 use Rattle.loops.proofs.Search.{circle_found}
 use Rattle.loops.proofs.Trails.{Leads, circle_exist, circle_loop, circle_listed}
 use Rattle.circles.specs.Circle.{ShowsCircle}
-use Rattle.needs.specs.Raising.{Places}
+use Rattle.needs.specs.Raising.{Places, sum_at}
 use Rattle.guess.specs.Guessing.{Chosen, Guessed}
 
--- the preds p, from which the walk back from s does not come to a register without one, and the circle on which it ends, as so many
--- entries of the ring
-module _ (Γ : Arrows) (shape : Shape Γ) (preds : List ℕ) (s : ℕ) (below : s < Γ.registers) (stray : rooted Γ preds Γ.registers s ≡ false)
-    (ring : List ℕ) (entries : ℕ) (found : ShowsCircle Γ preds s ring entries) where
-  exist : All (λ e. e < Γ.count) (take entries ring)
+-- preds among which the walk back from the last register does not come to a register without one, and the circle on which it ends, as the ring
+module _ (Γ : Arrows) (shape : Shape Γ) (preds : List ℕ) (stray : rooted Γ preds Γ.registers (Γ.registers - 1) ≡ false)
+    (ring : List ℕ) (found : ShowsCircle Γ preds (Γ.registers - 1) ring) where
+  abbrev s : ℕ
+  s = Γ.registers - 1
+
+  below : s < Γ.registers
+  below = let some = shape.sound.some in omega arith
+
+  exist : All (λ e. e < Γ.count) ring
   exist = let f = circle_found Γ preds shape.sound s below stray in rw found.shows (circle_exist Γ preds _ _ f.circle)
 
   -- its arrows are places whose amounts can be added up
-  pub guess_places : Γ.registers ≤ length ring → Places (length Γ.amounts) ring entries
-  guess_places room =
-      let short = found.short in
-      let long = shape.amounts_long in
-      let few = shape.few in
-      record { enough = omega arith; few = omega arith; within = all_map (λ e h. omega arith) (take entries ring) exist }
+  pub guess_places : Places Γ.count ring
+  guess_places = let short = found.short in let few = shape.few in record { few = omega arith; within = exist }
 
   -- where they add up to more than 0, the circle is a loop that contradicts itself
-  pub guess_shows : Chosen Γ preds → pos 0 <ℤ total (amount Γ) (take entries ring) → Guessed Γ ring entries
+  pub guess_shows : Chosen Γ preds → pos 0 <ℤ sum_at Γ.list ring → Guessed Γ ring
   guess_shows c over =
       let f = circle_found Γ preds shape.sound s below stray in
       let k = (circle_from Γ preds s).steps in
@@ -50,7 +48,3 @@ module _ (Γ : Arrows) (shape : Shape Γ) (preds : List ℕ) (s : ℕ) (below : 
         contradicts = λ h. record { loop = rw found.shows (circle_loop Γ preds k v f.circle leads); exist = exist; above = over };
         listed = λ h. rw found.shows (circle_listed Γ preds k v f.circle);
       }
-
--- no entries say nothing
-pub guess_none : (Γ : Arrows) (ring : List ℕ) → Guessed Γ ring 0
-guess_none Γ ring = record { short = omega arith; contradicts = λ h. absurd (omega arith); listed = λ h. absurd (omega arith) }

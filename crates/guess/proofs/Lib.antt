@@ -1,4 +1,2 @@
 -- Laws of the arrows that are noted and of the loop among them. Callers need none of them.
-pub mod Clearing
-pub mod Choosing
 pub mod Guesses

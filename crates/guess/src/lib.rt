@@ -2,86 +2,55 @@
 // is promised rests on which loop that is: another one, or none, only makes the climb longer or shorter.
 #![tactic(auto)]
 
-ghost use Rattle.std.specs.Prelude.{◌≡◌, ◌≤◌, ◌<◌, length};
-ghost use Rattle.loops.specs.Arrows.{arrows};
-ghost use Rattle.guess.specs.Guessing.{Cleared, Chosen, Choosable, Guessable, Guessed};
+ghost use Rattle.std.specs.Prelude.{◌≡◌, length};
+ghost use Rattle.loops.specs.Graphs.{of};
+ghost use Rattle.guess.specs.Guessing.{Chosen, Guessed};
 
+use arrayvec::ArrayVec;
 use circles::{grounded, show};
-use loops::NO_ARROW;
+use loops::{Graph, NO_ARROW, Preds};
 use needs::total_of;
+use paper::limits::MOST_REGISTERS;
 
-// No register has a pred: 65,535 names no arrow.
-fn clear(preds: &mut [u16], n: usize)
-    requires { length preds.old ≡ n }
-    ensures { Cleared n preds.new }
-{
-    let mut v = 0;
-    // The registers below v have no pred (`ClearedTo`).
-    while v < n {
-        preds[v] = NO_ARROW;
-        v += 1;
-    }
-}
-
-// Whether arrow e is to take the place of `old`: there is no such arrow, or e is heavier. Nothing is promised of the answer.
-fn is_heavier(amount: &[i32], count: usize, old: usize, e: usize) -> bool
-    requires { (count ≤ length amount.now) × (e < count) }
-{
-    if count <= old {
-        return true;
-    }
-    amount[old] < amount[e]
+// Whether arrow e is to take the place of the pred `noted`: that names no arrow, or e is heavier. Nothing is promised of the answer.
+fn is_heavier(graph: Graph, noted: u16, amount: i32) -> bool {
+    graph
+        .arrows
+        .get(usize::from(noted))
+        .is_none_or(|arrow| arrow.amount < amount)
 }
 
 // Of the arrows from `from` on, the heaviest into each register is noted as its pred.
-fn choose(
-    tail: &[u16],
-    head: &[u16],
-    amount: &[i32],
-    n: usize,
-    count: usize,
-    from: usize,
-    preds: &mut [u16],
-)
-    requires { Choosable (arrows n count tail.now head.now amount.now) preds.old }
-    ensures { Chosen (arrows n count tail.now head.now amount.now) preds.new }
+fn choose(graph: Graph, from: usize, preds: &mut [u16])
+    requires { Chosen (of graph) preds.old }
+    ensures { Chosen (of graph.entry) preds.new }
 {
-    let mut e = from;
     // Each pred that is an arrow leads into its register (`Chosen`).
-    while e < count {
-        let v = head[e] as usize;
-        let old = preds[v] as usize;
-        if is_heavier(amount, count, old, e) {
+    for e in from..graph.arrows.len() {
+        let arrow = &graph.arrows[e];
+        let v = usize::from(arrow.head);
+        if is_heavier(graph, preds[v], arrow.amount) {
             preds[v] = e as u16;
         }
-        e += 1;
     }
 }
 
-// A loop of the heaviest arrows that contradicts itself, by the number of its entries; none where there is no such loop. The walk to it
-// begins at the last register: any would do.
-pub fn guess(
-    tail: &[u16],
-    head: &[u16],
-    amount: &[i32],
-    n: usize,
-    count: usize,
-    from: usize,
-    preds: &mut [u16],
-    ring: &mut [u16],
-) -> usize
-    requires { Guessable (arrows n count tail.now head.now amount.now) preds.old ring.old }
-    ensures { Guessed (arrows n count tail.now head.now amount.now) ring.new result }
+// Lists a loop of the heaviest arrows that contradicts itself; an empty list where there is no such loop. The walk to it begins at the last
+// register: any would do.
+pub fn guess(graph: Graph, from: usize, preds: &mut [u16], ring: &mut ArrayVec<u16, MOST_REGISTERS>)
+    requires { length preds.old ≡ graph.registers }
+    ensures { Guessed (of graph.entry) ring.new.items }
 {
-    clear(preds, n);
-    choose(tail, head, amount, n, count, from, preds);
-    let s = n - 1;
-    if grounded(tail, head, amount, n, count, preds, s) {
-        return 0;
+    ring.clear();
+    preds.fill(NO_ARROW);
+    choose(graph, from, preds);
+    let noted = Preds { graph, list: preds };
+    let s = graph.registers - 1;
+    if grounded(noted, s) {
+        return;
     }
-    let entries = show(tail, head, amount, n, count, preds, s, ring);
-    if 0 < total_of(amount, ring, entries) {
-        return entries;
+    show(noted, s, ring);
+    if total_of(graph.arrows, ring) <= 0 {
+        ring.clear();
     }
-    0
 }

@@ -5,7 +5,7 @@ use Prim.Native.Nat.{ℕ, ◌≤◌, ◌<◌}
 use native.Mathlib.Omega.{arith}
 use lib.ListN.{length, drop, length-append}
 use Rattle.paper.specs.Network.{Network}
-use Rattle.paper.specs.Rules.{Rule}
+use Rattle.paper.specs.declared.Rule.{Rule}
 use Rattle.paper.specs.Output.{skew_record, latency_records, entry_records, LoopAlone, Answered}
 use Rattle.paper.proofs.OutputLaws.{skew_length, latencies-length, entries-length, period_back, latencies_back, entries_back}
 use Rattle.listing.specs.Listable.{FullAnswer, LoopAnswer}

@@ -1,27 +1,33 @@
 -- Lines: what stands from the start on stands at the front; a line put together from its parts, lines one after the other, and the words of
 -- the kinds. Rests on `Runs.antt` of `text` and on `OutputLaws.antt` of `paper`.
+use Rattle.std.specs.Prelude.{Err}
 use mathlib.Core.Path.{◌≡◌, refl, sym, ap, subst, ◌∙◌}
+use mathlib.Core.Logic.{◌⊎◌, inl, inr}
 use mathlib.Core.List.{List, [], ◌∷◌, ◌++◌, append-nil, append_assoc}
 use Prim.Native.Nat.{ℕ, suc, ◌+◌, ◌*◌, ◌≤◌, ◌<◌}
 use native.Mathlib.Omega.{arith}
 use native.Mathlib.Numerals.{add-one}
 use lib.IntN.{ℤ, pos, negsuc, ◌-ℤ◌}
 use lib.ListN.{length, set, length-append}
-use lib.Signed.{◌≤ℤ◌}
 use borrow.Author.Tests.{eq-eqb, ne_eqb}
 use mir.Syntax.{w32}
 use mir.Val.{SFits, to_z, of_z}
 use mir.Facts.{to_z-of_z}
 use Rattle.whole.specs.Four.{number_at}
 use Rattle.whole.proofs.Lin.{lin, minus, fits_between}
-use Rattle.paper.specs.declared.Outcome.{Outcome}
+use Rattle.paper.specs.declared.Refusal.{Refusal}
+use Rattle.paper.specs.declared.Unanswered.{Unanswered}
+use Rattle.paper.specs.declared.Unanswered.TheVariants as unanswered
+use Rattle.paper.specs.Numbers.{Outcome}
 use Rattle.paper.specs.File.{natural}
+use Rattle.paper.specs.Limits.{most_registers}
 use Rattle.paper.specs.Output.{Front}
 use Rattle.paper.proofs.OutputLaws.{stored_front}
 use Rattle.text.specs.Decimal.{decimal, whole}
 use Rattle.text.specs.Written.{Ended, Written}
 use Rattle.listing.specs.Text.{newline, line, latency_line, refused_line, latency_word, refused_word, latency_lines, entry_lines, loop_lines, kind_word, period_word, setup_word, hold_word}
 use Rattle.listing.specs.Text.{low_word, high_word, refused, answered_text, looped_text, text_of}
+use Rattle.text.proofs.Decimal.{decimal_few}
 use Rattle.text.proofs.Runs.{and_then, and_byte, named, nothing, long}
 
 -- what stands from the start on, with room for it, stands at the front
@@ -40,6 +46,22 @@ line_written w v e = and_byte (and_then w (named v (ap whole e))) 10
 -- the place behind a word and a number from 0 up
 pub counted_place : (word : List ℕ) (n : ℕ) {l m : List ℕ} {at i : ℕ} → Written l at (word ++ decimal n) m i → i ≡ at + length word + length (decimal n)
 counted_place word n w = omega (arith, w.place, length-append word (decimal n))
+
+-- a register's number has at most three digits, a refusal's number ten and its place twenty
+pub three_digits : (n : ℕ) → n < most_registers → length (decimal n) ≤ 3
+three_digits n h = decimal_few n 2 (omega (arith, h))
+
+pub ten_digits : (n : ℕ) → n < 4294967296 → length (decimal n) ≤ 10
+ten_digits n h = decimal_few n 9 (omega (arith, h))
+
+pub twenty_digits : (n : ℕ) → n < 18446744073709551616 → length (decimal n) ≤ 20
+twenty_digits n h = decimal_few n 19 (omega (arith, h))
+
+-- so the number's word and digits, and then the place's, end before the last byte
+pub refused_end : (n p : ℕ) {l m k : List ℕ} {i j : ℕ} → n < 4294967296 → p < 18446744073709551616
+    → Written l 0 (refused_word ++ decimal n) m i → Written m i ((32 ∷ []) ++ decimal p) k j → j ≤ 39
+refused_end n p f g w v =
+    omega (arith, ten_digits n f, twenty_digits p g, counted_place refused_word n w, counted_place (32 ∷ []) p v)
 
 -- a register's line by its two parts
 pub latency_line_lem : (i : ℕ) {y z : ℤ} → y ≡ z → (latency_word ++ decimal i) ++ line (32 ∷ []) y ≡ latency_line i z
@@ -74,18 +96,7 @@ module _ (lines : ℕ → List ℕ) (n : ℕ) (before : List ℕ) (at : ℕ) whe
         written = rw (add-one i, e) (and_then s.written w.written);
       }
 
-  -- at last all
-  pub lines_all : (after : List ℕ) (next i : ℕ) → Lines lines n before at after next i → n ≤ i
-      → Ended before at (lines n) after next (at + 24 * n)
-  lines_all after next i s h =
-      let e : i ≡ n = let w = s.within in omega arith in
-      record { written = rw e at s.written; by = let f = s.few in omega arith }
-
 -- ---- the words of the kinds
-
--- a kind that the code has matched
-pub matched : {z : ℤ} {k : ℕ} → SFits w32 z → of_z w32 z ≡ k → z ≡ to_z w32 k
-matched f e = sym (to_z-of_z f) ∙ ap (to_z w32) e
 
 -- kind 0 is a setup rule
 pub setup_kind : {z : ℤ} → z ≡ pos 0 → kind_word z ≡ setup_word
@@ -110,15 +121,6 @@ high_kind (pos k) a b c =
     rw (ne_eqb k 0 (λ e. a (ap bits e)), ne_eqb k 1 (λ e. b (ap bits e)), ne_eqb k 2 (λ e. c (ap bits e)))
 high_kind (negsuc k) a b c = refl
 
--- a line of a short word and a number is the line of the kind that has the word
-pub kind_line : (word : List ℕ) (y z kind : ℤ) {l m : List ℕ} {at j : ℕ} → Ended l at (line word y) m j (at + length word + 12)
-    → length word ≤ 12 → y ≡ z → kind_word kind ≡ word → Ended l at (line (kind_word kind) z) m j (at + 24)
-kind_line word y z kind w h e f =
-    record {
-      written = named w.written (ap (line word) e ∙ ap (λ v. line v z) (sym f));
-      by = let g = w.by in omega arith;
-    }
-
 -- ---- the lines of the registers and of the entries
 
 -- no register
@@ -127,10 +129,10 @@ unfolding latency_lines
 latency_none answer = refl
 
 -- one register more
-pub latency_more : (answer : List ℕ) (i : ℕ)
-    → latency_lines answer (suc i) ≡ latency_lines answer i ++ latency_line i (number_at answer (14 + 6 * i + 2))
+pub latency_more : (answer : List ℕ) (i : ℕ) (z : ℤ) → z ≡ number_at answer (14 + 6 * i + 2)
+    → latency_lines answer (suc i) ≡ latency_lines answer i ++ latency_line i z
 unfolding latency_lines
-latency_more answer i = refl
+latency_more answer i z e = ap (λ y. latency_lines answer i ++ latency_line i y) (sym e)
 
 -- no entry
 pub entry_none : (answer : List ℕ) (start : ℕ) → entry_lines answer start 0 ≡ []
@@ -138,11 +140,10 @@ unfolding entry_lines
 entry_none answer start = refl
 
 -- one entry more
-pub entry_more : (answer : List ℕ) (start j : ℕ)
-    → entry_lines answer start (suc j)
-    ≡ entry_lines answer start j ++ line (kind_word (number_at answer (start + 10 * j + 2))) (number_at answer (start + 10 * j + 6))
+pub entry_more : (answer : List ℕ) (start j : ℕ) (kind z : ℤ) → kind ≡ number_at answer (start + 10 * j + 2) → z ≡ number_at answer (start + 10 * j + 6)
+    → entry_lines answer start (suc j) ≡ entry_lines answer start j ++ line (kind_word kind) z
 unfolding entry_lines
-entry_more answer start j = refl
+entry_more answer start j kind z e f = rw (e, f) refl
 
 -- ---- the whole listing of an answer, and of a refusal that shows a loop
 
@@ -168,17 +169,22 @@ pub looped_written : (answer before one two : List ℕ) (o : Outcome) (i j k : �
     → Written one i (loop_lines period answer 14 k) two j → Written before 0 (looped_text ceiling o answer) two j
 looped_written answer before one two o i j k period ceiling e f w v = rw (← e, ← f) (and_then w v)
 
--- the loop is shown at the ceiling that was handed on
-pub looped_is : (o : Outcome) (answer : List ℕ) {y z : ℤ} → y ≡ z → looped_text y o answer ≡ looped_text z o answer
-looped_is o answer e = ap (λ x. looped_text x o answer) e
+-- what stands from the start on is the text that it is known to be, and stands at the front
+pub told : {b t before after : List ℕ} {next end : ℕ} → b ≡ t → Ended before 0 b after next end → end ≤ length before
+    → (Front t before after) × (next ≡ length t)
+told {b} {t} {before} {after} {next} e w l = subst (λ (x : List ℕ). (Front x before after) × (next ≡ length x)) e (front w l)
 
--- what is the text of the outcome that o is, is the text of o, and stands at the front
-pub told : (ceiling : ℤ) (answer : List ℕ) (body : Outcome → List ℕ) {o known : Outcome} {before after : List ℕ} {next end : ℕ}
-    → o ≡ known → body known ≡ text_of ceiling known answer → Ended before 0 (body o) after next end → end ≤ length before
-    → (Front (text_of ceiling o answer) before after) × (next ≡ length (text_of ceiling o answer))
-told ceiling answer body {o} {known} {before} {after} {next} e h w l =
-    let is : body o ≡ text_of ceiling o answer = subst (λ y. body y ≡ text_of ceiling y answer) (sym e) h in
-    subst (λ (b : List ℕ). (Front b before after) × (next ≡ length b)) is (front w l)
+-- the text of a refusal that shows no loop
+pub refusal_text : (z : ℤ) (answer : List ℕ) {o : Outcome} {e : Unanswered} → o ≡ Err e → ((x : Refusal) × (e ≡ unanswered.Refused x)) ⊎ (e ≡ unanswered.Room)
+    → refused (Err e) ≡ text_of z o answer
+refusal_text z answer f (inl g) = rw (f, g.1) refl
+refusal_text z answer f (inr g) = rw (f, g) refl
+
+-- and of one that shows a loop
+pub loop_text_is : (z : ℤ) (answer : List ℕ) {y : ℤ} {o : Outcome} {e : Unanswered} → y ≡ z → o ≡ Err e
+    → (e ≡ unanswered.NoPeriod) ⊎ (e ≡ unanswered.NoneToCeiling) → looped_text y (Err e) answer ≡ text_of z o answer
+loop_text_is z answer h f (inl g) = rw (f, g, h) refl
+loop_text_is z answer h f (inr g) = rw (f, g, h) refl
 
 -- ---- counts
 
@@ -186,14 +192,9 @@ told ceiling answer body {o} {known} {before} {after} {next} e h w l =
 pub same_count : (r n : ℕ) (z : ℤ) → pos r ≡ z → z ≡ pos n → r ≡ n
 same_count r n z e f = ap natural (e ∙ f)
 
--- a count is not negative
-pub not_negative : (n : ℕ) (z : ℤ) → z ≡ pos n → pos 0 ≤ℤ z
-not_negative n z e = omega lin
-
--- one less than a count fits
-pub less_one_fits : (n : ℕ) (z : ℤ) → SFits w32 z → z ≡ pos n → SFits w32 (z -ℤ pos 1)
-less_one_fits n z f e = omega (lin, minus z (pos 1), fits_between w32 z f)
-
--- a line of the same kind and number
-pub line_is : {a b y z : ℤ} → a ≡ b → y ≡ z → line (kind_word a) y ≡ line (kind_word b) z
-line_is {a} {b} {y} {z} e f = ap (λ v. line (kind_word v) y) e ∙ ap (line (kind_word b)) f
+-- one less than a count, as the code reads the two
+pub less_one : (n : ℕ) (z : ℤ) → SFits w32 z → z ≡ pos n
+    → to_z w32 (of_z w32 (to_z w32 (of_z w32 z) -ℤ pos 1)) ≡ to_z w32 (of_z w32 z) -ℤ pos 1
+less_one n z f e =
+    let fits : SFits w32 (z -ℤ pos 1) = omega (lin, minus z (pos 1), fits_between w32 z f) in
+    rw (to_z-of_z f) (to_z-of_z fits)

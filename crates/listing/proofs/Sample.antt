@@ -1,4 +1,5 @@
 -- The paper's sample, byte for byte: the listing of network A, from its answer and whatever stands behind it. And two refusals. Rests on no other file.
+use Rattle.std.specs.Prelude.{Ok, Err}
 use mathlib.Core.Path.{◌≡◌, refl}
 use mathlib.Core.List.{List, [], ◌∷◌, ◌++◌}
 use Prim.Native.Nat.{ℕ}
@@ -6,8 +7,8 @@ use lib.IntN.{ℤ, pos, negsuc}
 use Rattle.whole.specs.Four.{number_at, word_at, signed_of, word_of, bytes_of, four}
 use Rattle.paper.specs.declared.Fault.TheVariants as fault
 use Rattle.paper.specs.declared.Refusal.TheVariants as refusal
-use Rattle.paper.specs.declared.Outcome.TheVariants as outcome
-use Rattle.paper.specs.Rules.{Rule}
+use Rattle.paper.specs.declared.Unanswered.TheVariants as unanswered
+use Rattle.paper.specs.declared.Rule.{Rule}
 use Rattle.paper.specs.Output.{skew_record, latency_record, entry_record}
 use Rattle.text.specs.Decimal.{digits, decimal, whole}
 use Rattle.listing.specs.Text.{text_of, answered_text, latency_lines, entry_lines, kind_word}
@@ -39,12 +40,12 @@ lines_of_a =
     ∷ 104 ∷ 111 ∷ 108 ∷ 100 ∷ 32 ∷ 48 ∷ 10 ∷ []
 
 -- the listing of these bytes
-pub listing_of_a : (ceiling : ℤ) (rest : List ℕ) → text_of ceiling outcome.Answered (answer_of_a ++ rest) ≡ lines_of_a
+pub listing_of_a : (ceiling : ℤ) (rest : List ℕ) → text_of ceiling (Ok tt) (answer_of_a ++ rest) ≡ lines_of_a
 unfolding answer_of_a lines_of_a answered_text latency_lines entry_lines kind_word digits decimal whole number_at word_at signed_of word_of bytes_of four
 listing_of_a ceiling rest = refl
 
 -- refused 6 1027
-pub listing_of_a_path : (ceiling : ℤ) (answer : List ℕ) → text_of ceiling (outcome.Refused (refusal.File (fault.Path 1027))) answer
+pub listing_of_a_path : (ceiling : ℤ) (answer : List ℕ) → text_of ceiling (Err (unanswered.Refused (refusal.File (fault.Path 1027)))) answer
     ≡ 114 ∷ 101 ∷ 102 ∷ 117 ∷ 115 ∷ 101 ∷ 100 ∷ 32 ∷ 54 ∷ 32 ∷ 49 ∷ 48 ∷ 50 ∷ 55 ∷ 10 ∷ []
 unfolding digits decimal
 listing_of_a_path ceiling answer = refl
@@ -52,7 +53,7 @@ listing_of_a_path ceiling answer = refl
 -- refused 8 0
 -- loop 10000000
 -- hold 0
-pub listing_of_no_period : (rest : List ℕ) → text_of (pos 10000000) outcome.NoPeriod (skew_record 0 0 1 ++ entry_record (Rule.Hold 0) ++ rest)
+pub listing_of_no_period : (rest : List ℕ) → text_of (pos 10000000) (Err unanswered.NoPeriod) (skew_record 0 0 1 ++ entry_record (Rule.Hold 0) ++ rest)
     ≡ 114 ∷ 101 ∷ 102 ∷ 117 ∷ 115 ∷ 101 ∷ 100 ∷ 32 ∷ 56 ∷ 32 ∷ 48 ∷ 10
     ∷ 108 ∷ 111 ∷ 111 ∷ 112 ∷ 32 ∷ 49 ∷ 48 ∷ 48 ∷ 48 ∷ 48 ∷ 48 ∷ 48 ∷ 48 ∷ 10
     ∷ 104 ∷ 111 ∷ 108 ∷ 100 ∷ 32 ∷ 48 ∷ 10 ∷ []

@@ -8,10 +8,12 @@ use lib.IntN.{ℤ, pos}
 use lib.ListN.{length, get_or}
 use borrow.Author.Tests.{ne_eqb}
 use Rattle.whole.specs.Four.{number_at}
-use Rattle.paper.specs.declared.Outcome.{Outcome}
+use Rattle.paper.specs.Numbers.{Outcome}
 use Rattle.paper.specs.Network.{Network}
 use Rattle.paper.specs.File.{natural}
-use Rattle.paper.specs.Rules.{Rule, Setup, Hold, Low, High, kind, number}
+use Rattle.paper.specs.declared.Rule.{Rule}
+use Rattle.paper.specs.declared.Rule.TheVariants.{Setup, Hold, Low, High}
+use Rattle.paper.specs.Rules.{kind, number}
 use Rattle.listing.specs.Text.{line, latency_line, latency_lines, entry_lines, kind_word, loop_word, refused, answered_text, looped_text}
 use Rattle.listing.specs.ResultText.{rule_line, register_lines, rule_lines, answer_text, refused_text}
 

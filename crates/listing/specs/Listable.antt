@@ -1,9 +1,9 @@
 -- What a listing asks of its outcome, answer and text: room for the text, and that the records that the answer's first record counts
 -- stand in the answer. Every answer that the scheduler leaves is so. And what the writers of single lines ask for.
-use Rattle.std.specs.Prelude.{◌≡◌, List, ℕ, ◌+◌, ◌*◌, ◌≤◌, ◌<◌, pos, length, ◌≤ℤ◌}
+use Rattle.std.specs.Prelude.{◌≡◌, List, ℕ, ◌+◌, ◌*◌, ◌≤◌, ◌<◌, pos, length, ◌≤ℤ◌, Ok, Err}
 use Rattle.whole.specs.Four.{number_at}
-use Rattle.paper.specs.declared.Outcome.{Outcome}
-use Rattle.paper.specs.declared.Outcome.TheVariants as outcome
+use Rattle.paper.specs.Numbers.{Outcome}
+use Rattle.paper.specs.declared.Unanswered.TheVariants as unanswered
 use Rattle.paper.specs.Limits.{most_registers}
 
 -- the room that any text fits in
@@ -31,11 +31,11 @@ pub record LoopAnswer (answer : List ℕ) : Type 0 where
 
 -- what an outcome says of the answer: of a refusal before 8 nothing is read
 abbrev pub Counted : Outcome → List ℕ → Type 0
-Counted outcome.Answered answer = FullAnswer answer
-Counted (outcome.Refused x) answer = Unit {0}
-Counted outcome.Room answer = Unit {0}
-Counted outcome.NoPeriod answer = LoopAnswer answer
-Counted outcome.NoneToCeiling answer = LoopAnswer answer
+Counted (Ok tt) answer = FullAnswer answer
+Counted (Err (unanswered.Refused x)) answer = Unit {0}
+Counted (Err unanswered.Room) answer = Unit {0}
+Counted (Err unanswered.NoPeriod) answer = LoopAnswer answer
+Counted (Err unanswered.NoneToCeiling) answer = LoopAnswer answer
 
 -- what is known of the answer, and room for any text
 pub record InRoom (Known : Type 0) (text : List ℕ) : Type 0 where

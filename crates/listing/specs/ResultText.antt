@@ -1,10 +1,11 @@
 -- The text of a listing in the rules' own terms: of a period, latencies and a loop of rules, not of the bytes that they stand in. `Text.antt`
 -- says the text over an answer's bytes; `proofs/Texts.antt` of `skewlist` shows that of every result of the scheduler's the two are one.
-use Rattle.std.specs.Prelude.{List, [], ◌∷◌, ◌++◌, ℕ, zero, suc, ℤ, pos, ◌-ℤ◌}
-use Rattle.paper.specs.declared.Outcome.{Outcome}
-use Rattle.paper.specs.declared.Outcome.TheVariants as outcome
+use Rattle.std.specs.Prelude.{List, [], ◌∷◌, ◌++◌, ℕ, zero, suc, ℤ, pos, ◌-ℤ◌, Ok, Err}
+use Rattle.paper.specs.Numbers.{Outcome}
+use Rattle.paper.specs.declared.Unanswered.TheVariants as unanswered
 use Rattle.paper.specs.Network.{Network}
-use Rattle.paper.specs.Rules.{Rule, Setup, Hold, Low, High}
+use Rattle.paper.specs.declared.Rule.{Rule}
+use Rattle.paper.specs.declared.Rule.TheVariants.{Setup, Hold, Low, High}
 use Rattle.paper.specs.Outcome.{Left}
 use Rattle.listing.specs.Text.{line, latency_line, refused, period_word, loop_word, setup_word, hold_word, low_word, high_word}
 
@@ -44,8 +45,8 @@ refused_text N o loop = refused o ++ loop_text (pos N.ceiling) loop
 
 -- the listing of what the scheduler returns and leaves, by cases of the outcome
 abbrev pub result_text : (N : Network) (before : List ℕ) (o : Outcome) (after : List ℕ) → Left N o before after → List ℕ
-result_text N before outcome.Answered after l = answer_text l.period N.registers l.latency l.loop
-result_text N before (outcome.Refused x) after l = refused (outcome.Refused x)
-result_text N before outcome.Room after l = refused outcome.Room
-result_text N before outcome.NoPeriod after l = refused_text N outcome.NoPeriod l.loop
-result_text N before outcome.NoneToCeiling after l = refused_text N outcome.NoneToCeiling l.loop
+result_text N before (Ok tt) after l = answer_text l.period N.registers l.latency l.loop
+result_text N before (Err (unanswered.Refused x)) after l = refused (Err (unanswered.Refused x))
+result_text N before (Err unanswered.Room) after l = refused (Err unanswered.Room)
+result_text N before (Err unanswered.NoPeriod) after l = refused_text N (Err unanswered.NoPeriod) l.loop
+result_text N before (Err unanswered.NoneToCeiling) after l = refused_text N (Err unanswered.NoneToCeiling) l.loop

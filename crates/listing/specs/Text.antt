@@ -8,12 +8,11 @@
 -- | the name of the kind (`setup`, `hold`, `low` or `high`) and the rule's number | for each entry of the loop, in its order |
 -- RULES 9.3: "Of a refusal it prints `refused`, the number and the place. After 8 and 9 there follow the `loop` line, with the ceiling, and a
 -- line for each entry as above."
-use Rattle.std.specs.Prelude.{List, [], ◌∷◌, ◌++◌, cond, ℕ, zero, suc, ◌+◌, ◌*◌, ℤ, pos, negsuc, ◌-ℤ◌, eqb}
+use Rattle.std.specs.Prelude.{List, [], ◌∷◌, ◌++◌, cond, ℕ, zero, suc, ◌+◌, ◌*◌, ℤ, pos, negsuc, ◌-ℤ◌, eqb, Ok, Err}
 use Rattle.whole.specs.Four.{number_at}
-use Rattle.paper.specs.declared.Outcome.{Outcome}
-use Rattle.paper.specs.declared.Outcome.TheVariants as outcome
+use Rattle.paper.specs.declared.Unanswered.TheVariants as unanswered
 use Rattle.paper.specs.File.{natural}
-use Rattle.paper.specs.Numbers.{outcome_number, outcome_place}
+use Rattle.paper.specs.Numbers.{Outcome, outcome_number, outcome_place}
 use Rattle.text.specs.Decimal.{decimal, whole}
 
 -- ---- the words, each with the space behind it, in ASCII
@@ -116,8 +115,8 @@ looped_text ceiling o answer = refused o ++ loop_lines ceiling answer 14 (entrie
 
 -- Of 8 and 9 alone the ceiling is part of the text.
 abbrev pub text_of : ℤ → Outcome → List ℕ → List ℕ
-text_of ceiling outcome.Answered answer = answered_text answer
-text_of ceiling (outcome.Refused x) answer = refused (outcome.Refused x)
-text_of ceiling outcome.Room answer = refused outcome.Room
-text_of ceiling outcome.NoPeriod answer = looped_text ceiling outcome.NoPeriod answer
-text_of ceiling outcome.NoneToCeiling answer = looped_text ceiling outcome.NoneToCeiling answer
+text_of ceiling (Ok tt) answer = answered_text answer
+text_of ceiling (Err (unanswered.Refused x)) answer = refused (Err (unanswered.Refused x))
+text_of ceiling (Err unanswered.Room) answer = refused (Err unanswered.Room)
+text_of ceiling (Err unanswered.NoPeriod) answer = looped_text ceiling (Err unanswered.NoPeriod) answer
+text_of ceiling (Err unanswered.NoneToCeiling) answer = looped_text ceiling (Err unanswered.NoneToCeiling) answer

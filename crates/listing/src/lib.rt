@@ -1,8 +1,9 @@
 // The text of a listing, from an outcome, the network's ceiling and the answer's bytes, into a lent buffer. Each writer puts its bytes at a
 // place and returns the place behind them; its contract is `Ended`, of the crate text.
+// Kept: writers by place, for no clause says which bytes a `write!` leaves in a lent slice, nor that it succeeds where there is room.
 #![tactic(auto)]
 
-ghost use Rattle.std.specs.Prelude.{◌≡◌, ◌++◌, ◌+◌, ◌*◌, ◌≤◌, pos, length};
+ghost use Rattle.std.specs.Prelude.{◌≡◌, ◌++◌, ◌+◌, ◌*◌, ◌≤◌, pos, length, Err};
 ghost use Rattle.whole.specs.Four.{number_at};
 ghost use Rattle.paper.specs.Output.{Front};
 ghost use Rattle.text.specs.Decimal.{decimal};
@@ -10,7 +11,8 @@ ghost use Rattle.text.specs.Written.{Ended, Written};
 ghost use Rattle.listing.specs.Text.{line, latency_line, refused_line, latency_lines, entry_lines, loop_lines, kind_word, refused, answered_text, looped_text, text_of};
 ghost use Rattle.listing.specs.Listable.{FullAnswer, LoopAnswer, InRoom, Listable, LatencyRoom, LatenciesRoom, EntriesRoom, Countable, text_room};
 
-use paper::{Outcome, codes};
+use paper::Unanswered;
+use paper::codes::Numbered;
 use text::{put_digits, put_text, put_whole};
 
 // The room that any text fits in.
@@ -56,13 +58,11 @@ fn put_refused(text: &mut [u8], number: u32, place: usize) -> usize
 }
 
 // The line of an outcome that is no answer.
-fn put_refusal(text: &mut [u8], o: Outcome) -> usize
+fn put_refusal(text: &mut [u8], e: Unanswered) -> usize
     requires { 40 ≤ length text.old }
-    ensures { Ended text.old 0 (refused o) text.new result 40 }
+    ensures { Ended text.old 0 (refused (Err e)) text.new result 40 }
 {
-    let number = codes::outcome_number(o);
-    let place = codes::outcome_place(o);
-    put_refused(text, number, place)
+    put_refused(text, e.number(), e.place())
 }
 
 fn put_entry(text: &mut [u8], at: usize, kind: i32, number: i32) -> usize
@@ -77,17 +77,15 @@ fn put_entry(text: &mut [u8], at: usize, kind: i32, number: i32) -> usize
     }
 }
 
+// Kept: two functions, for the clauses of one over a closure, on the bytes that each call writes, are longer than its loop.
 fn put_latencies(text: &mut [u8], at: usize, answer: &[u8], n: usize) -> usize
     requires { LatenciesRoom answer.now text.old at n }
     ensures { Ended text.old at (latency_lines answer.now n) text.new result (at + 24 * n) }
 {
     let mut next = at;
-    let mut i = 0;
     // `Lines`: the lines of the first i registers stand in the text, up to `next`.
-    while i < n {
-        let x = whole::number(answer, 14 + 6 * i + 2);
-        next = put_latency(text, next, i, x);
-        i += 1;
+    for i in 0..n {
+        next = put_latency(text, next, i, whole::number(answer, 14 + 6 * i + 2));
     }
     next
 }
@@ -97,14 +95,12 @@ fn put_entries(text: &mut [u8], at: usize, answer: &[u8], start: usize, k: usize
     ensures { Ended text.old at (entry_lines answer.now start k) text.new result (at + 24 * k) }
 {
     let mut next = at;
-    let mut j = 0;
     // `Lines`: the lines of the first j entries stand in the text, up to `next`.
-    while j < k {
+    for j in 0..k {
         let place = start + 10 * j;
         let kind = whole::number(answer, place + 2);
         let number = whole::number(answer, place + 6);
         next = put_entry(text, next, kind, number);
-        j += 1;
     }
     next
 }
@@ -141,27 +137,27 @@ fn answered(answer: &[u8], text: &mut [u8]) -> usize
 }
 
 // A refusal that shows a loop which contradicts itself at the ceiling.
-fn looped(ceiling: i32, answer: &[u8], o: Outcome, text: &mut [u8]) -> usize
+fn looped(ceiling: i32, answer: &[u8], e: Unanswered, text: &mut [u8]) -> usize
     requires { InRoom (LoopAnswer answer.now) text.old }
-    ensures { Ended text.old 0 (looped_text ceiling o answer.now) text.new result text_room }
+    ensures { Ended text.old 0 (looped_text ceiling (Err e) answer.now) text.new result text_room }
 {
     let k = count(answer, 10);
-    let next = put_refusal(text, o);
+    let next = put_refusal(text, e);
     put_loop(text, next, ceiling, answer, 14, k)
 }
 
 // The listing stands at the front of the text, and what stood behind it stands there still; the result is the listing's length. The ceiling
 // is the network's: the text of 8 and 9 has it, and no other reads it.
-pub fn list(ceiling: i32, answer: &[u8], o: Outcome, text: &mut [u8]) -> usize
+pub fn list(ceiling: i32, answer: &[u8], o: Result<(), Unanswered>, text: &mut [u8]) -> usize
     requires { Listable o answer.now text.old }
     ensures { (Front (text_of ceiling o answer.now) text.old text.new)
         × (result ≡ length (text_of ceiling o answer.now)) }
 {
-    match o {
-        Outcome::Answered => answered(answer, text),
-        Outcome::Refused(_) => put_refusal(text, o),
-        Outcome::Room => put_refusal(text, o),
-        Outcome::NoPeriod => looped(ceiling, answer, o, text),
-        Outcome::NoneToCeiling => looped(ceiling, answer, o, text),
+    let Err(e) = o else {
+        return answered(answer, text);
+    };
+    match e {
+        Unanswered::Refused(_) | Unanswered::Room => put_refusal(text, e),
+        Unanswered::NoPeriod | Unanswered::NoneToCeiling => looped(ceiling, answer, e, text),
     }
 }

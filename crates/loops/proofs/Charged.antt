@@ -12,7 +12,9 @@ use Rattle.whole.proofs.Lin.{lin, plus, minus, negs}
 use Rattle.paper.specs.Network.{Network}
 use Rattle.paper.specs.Legal.{Legal}
 use Rattle.paper.specs.Chains.{All}
-use Rattle.paper.specs.Rules.{Rule, Setup, Hold, Low, High, Exists, Holds, ◌≥ℤ◌, charged, tail, head, amount, slack}
+use Rattle.paper.specs.declared.Rule.{Rule}
+use Rattle.paper.specs.declared.Rule.TheVariants.{Setup, Hold, Low, High}
+use Rattle.paper.specs.Rules.{Exists, Holds, ◌≥ℤ◌, charged, tail, head, amount, slack}
 use Rattle.paper.specs.Schedule.{Schedule}
 use Rattle.paper.proofs.RuleLaws.{arrow_is_rule}
 use Rattle.paper.proofs.ChargeLaws.{self_path_uncharged, other_path_charged, nothing_charged, charge_most}

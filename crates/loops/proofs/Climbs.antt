@@ -3,7 +3,7 @@ use mathlib.Core.Path.{◌≡◌, refl}
 use mathlib.Core.List.{List, [], ◌∷◌, map}
 use Prim.Native.Nat.{ℕ, ◌-◌, ◌≤◌, ◌<◌}
 use native.Mathlib.Omega.{arith}
-use lib.ListN.{take}
+use lib.ListN.{length}
 use lib.IntN.{ℤ}
 use Rattle.paper.specs.Chains.{All, Listed}
 use Rattle.loops.specs.Arrows.{Arrows, Least, Contradicts, tail, head}
@@ -26,23 +26,23 @@ module _ {E : Type 0} (F : Family E) (law : Lawful F) where
   shows_loop floor Q (e ∷ l) h r = (h, r)
 
   module _ (name : ℕ → E) (count floor ceiling : ℕ) where
-    pub climbing_floor : (ring : List ℕ) → floor ≤ ceiling → Climbing F name count floor ceiling floor ring 0
-    climbing_floor ring h = record { from_floor = omega arith; to_ceiling = h; shown = refl; short = omega arith; exist = tt }
+    pub climbing_floor : floor ≤ ceiling → Climbing F name count floor ceiling floor []
+    climbing_floor h = record { from_floor = omega arith; to_ceiling = h; shown = refl; short = omega arith; exist = tt }
 
     -- any period above the floor may be tried at which just below a loop contradicts itself
-    pub climbing_at : (Q : ℕ) (ring : List ℕ) (entries : ℕ) → floor < Q → Q ≤ ceiling → entries ≤ F.graph.registers → All (λ e. e < count) (take entries ring)
-        → Refutes F (Q - 1) (map name (take entries ring)) → Climbing F name count floor ceiling Q ring entries
-    climbing_at Q ring entries low to short exist r =
-        record { from_floor = omega arith; to_ceiling = to; shown = shows_loop floor Q (map name (take entries ring)) low r; short = short; exist = exist }
+    pub climbing_at : (Q : ℕ) (ring : List ℕ) → floor < Q → Q ≤ ceiling → length ring ≤ F.graph.registers → All (λ e. e < count) ring
+        → Refutes F (Q - 1) (map name ring) → Climbing F name count floor ceiling Q ring
+    climbing_at Q ring low to short exist r =
+        record { from_floor = omega arith; to_ceiling = to; shown = shows_loop floor Q (map name ring) low r; short = short; exist = exist }
 
     module _ (P : ℕ) (Γ : Arrows) (whole : Γ.count ≡ count) (names : Enumerates F.graph name count) (lays : Lays F.graph name (F.weigh P) Γ) where
       placed : Enumerates F.graph name Γ.count
       placed = rw whole names
 
       -- the row rests: it is the answer
-      pub climbing_answers : (ring : List ℕ) (kept : ℕ) → Climbing F name count floor ceiling P ring kept → (x : ℕ → ℤ) → Least Γ x → Best F floor ceiling P x
-      climbing_answers ring kept c x r =
-          climb_ends F law floor ceiling P x (map name (take kept ring)) c.from_floor c.to_ceiling (laid_least F.graph name (F.weigh P) Γ placed lays x r) c.shown
+      pub climbing_answers : (ring : List ℕ) → Climbing F name count floor ceiling P ring → (x : ℕ → ℤ) → Least Γ x → Best F floor ceiling P x
+      climbing_answers ring c x r =
+          climb_ends F law floor ceiling P x (map name ring) c.from_floor c.to_ceiling (laid_least F.graph name (F.weigh P) Γ placed lays x r) c.shown
 
       -- a loop is found: it contradicts itself at P
       pub trial_refutes : (l : List ℕ) → Contradicts Γ l → Listed (tail Γ) (head Γ) l → Refutes F P (map name l)

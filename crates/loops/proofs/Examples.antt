@@ -16,9 +16,14 @@ abbrev three : ℤ → ℤ → Arrows
 three to fro = record {
   registers = 3;
   count = 6;
-  tails = 0 ∷ 0 ∷ 1 ∷ 2 ∷ 1 ∷ 2 ∷ [];
-  heads = 1 ∷ 2 ∷ 0 ∷ 0 ∷ 2 ∷ 1 ∷ [];
-  amounts = pos 0 ∷ pos 0 ∷ negsuc 9 ∷ negsuc 9 ∷ to ∷ fro ∷ [];
+  list =
+      record { tail = 0; head = 1; amount = pos 0 }
+      ∷ record { tail = 0; head = 2; amount = pos 0 }
+      ∷ record { tail = 1; head = 0; amount = negsuc 9 }
+      ∷ record { tail = 2; head = 0; amount = negsuc 9 }
+      ∷ record { tail = 1; head = 2; amount = to }
+      ∷ record { tail = 2; head = 1; amount = fro }
+      ∷ [];
 }
 
 -- where the low arrow of register v stands

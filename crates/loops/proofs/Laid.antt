@@ -1,15 +1,15 @@
 -- A graph in memory: where each place holds an arrow of the graph and each arrow of the graph has a place, the schedules of the arrows in
 -- memory are those of the graph, and their loops are loops of the graph. Rests on `Webs`.
-use mathlib.Core.Path.{◌≡◌, refl, subst}
+use mathlib.Core.Path.{◌≡◌, refl, subst, ap}
 use mathlib.Core.Logic.{◌↔◌}
 use mathlib.Core.List.{List, map}
 use Prim.Native.Nat.{ℕ, ◌<◌}
 use native.Mathlib.Omega.{arith}
-use lib.IntN.{ℤ, pos, ◌+ℤ◌}
+use lib.IntN.{ℤ, ◌+ℤ◌}
 use lib.Signed.{◌≤ℤ◌}
 use Rattle.whole.proofs.Lin.{lin}
 use Rattle.paper.specs.Chains.{Listed}
-use Rattle.loops.specs.Arrows.{Arrows, web, tail, head}
+use Rattle.loops.specs.Arrows.{Arrows, arrow_at, web, tail, head}
 use Rattle.loops.specs.Webs.{Schedule, Least, Contradicts, Within}
 use Rattle.loops.specs.Family.{Graph, Enumerates, Lays, web_of}
 use Rattle.loops.specs.Model.{table}
@@ -22,18 +22,19 @@ arrows_of G name count w =
     record {
       registers = G.registers;
       count = count;
-      tails = table (λ e. G.leaves (name e)) 0 count;
-      heads = table (λ e. G.reaches (name e)) 0 count;
-      amounts = table (λ e. w (name e)) 0 count;
+      list = table (λ e. record { tail = G.leaves (name e); head = G.reaches (name e); amount = w (name e) }) 0 count;
     }
 
 pub arrows_of_lays : {E : Type 0} (G : Graph E) (name : ℕ → E) (count : ℕ) (w : E → ℤ) → Lays G name w (arrows_of G name count w)
 arrows_of_lays G name count w = record {
   registers = refl;
-  tails = λ e h. table_at (λ e. G.leaves (name e)) count e 0 h;
-  heads = λ e h. table_at (λ e. G.reaches (name e)) count e 0 h;
-  amounts = λ e h. table_at (λ e. w (name e)) count e (pos 0) h;
+  tails = λ e h. ap (λ a. a.tail) (stands e h);
+  heads = λ e h. ap (λ a. a.head) (stands e h);
+  amounts = λ e h. ap (λ a. a.amount) (stands e h);
 }
+  where
+    stands : (e : ℕ) → e < count → arrow_at (arrows_of G name count w).list e ≡ record { tail = G.leaves (name e); head = G.reaches (name e); amount = w (name e) }
+    stands e h = table_at (λ e. record { tail = G.leaves (name e); head = G.reaches (name e); amount = w (name e) }) count e _ h
 
 module _ {E : Type 0} (G : Graph E) (name : ℕ → E) (w : E → ℤ) (Γ : Arrows) (names : Enumerates G name Γ.count) (y : Lays G name w Γ) where
   laid_within : Within (web Γ) (web_of G w) name

@@ -4,7 +4,9 @@ use mathlib.Core.Bool.{Bool, true, false, cond}
 use Prim.Native.Nat.{ℕ, zero, suc, ◌<◌}
 use native.Mathlib.Omega.{arith}
 use lib.Dec.{eqb}
-use Rattle.paper.specs.Rules.{Rule, Setup, Hold, Low, High, kind, number}
+use Rattle.paper.specs.declared.Rule.{Rule}
+use Rattle.paper.specs.declared.Rule.TheVariants.{Setup, Hold, Low, High}
+use Rattle.paper.specs.Rules.{kind, number}
 use Rattle.loops.specs.Names.{rule_of}
 
 pub kind_of : (k i : ℕ) → k < 4 → kind (rule_of k i) ≡ k

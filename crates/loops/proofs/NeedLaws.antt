@@ -10,7 +10,7 @@ use lib.IntN.{ℤ, pos, negsuc}
 use lib.Signed.{◌≤ℤ◌, ◌<ℤ◌}
 use Rattle.whole.proofs.Lin.{lin}
 use Rattle.paper.specs.Network.{Network}
-use Rattle.paper.specs.Rules.{Rule}
+use Rattle.paper.specs.declared.Rule.{Rule}
 use Rattle.paper.specs.Schedule.{IsLoop, Contradicts, Refutes, Answer, setups, need}
 use Rattle.paper.specs.Refusals.{Scheduled, NoPeriod}
 use Rattle.paper.proofs.LoopLaws.{contradicts_below_need, contradicts_always}

@@ -6,7 +6,9 @@ use native.Mathlib.Omega.{arith}
 use native.Mathlib.Decide.{dec_lt}
 use borrow.Author.Tests.{lt-ltb, le-ltb}
 use Rattle.paper.specs.Network.{Network}
-use Rattle.paper.specs.Rules.{Rule, Setup, Hold, Low, High, Exists, tail, head}
+use Rattle.paper.specs.declared.Rule.{Rule}
+use Rattle.paper.specs.declared.Rule.TheVariants.{Setup, Hold, Low, High}
+use Rattle.paper.specs.Rules.{Exists, tail, head}
 use Rattle.paper.proofs.Legal.{Legal}
 use Rattle.loops.specs.Family.{Enumerates, Framed, LaidOut, fixed_graph}
 use Rattle.loops.specs.RuleFamily.{IsFixed, graph_of, rules}

@@ -11,7 +11,8 @@ use Rattle.whole.specs.Rounding.{round_up}
 use Rattle.whole.proofs.Lin.{lin}
 use Rattle.paper.specs.Network.{Network}
 use Rattle.paper.specs.File.{natural}
-use Rattle.paper.specs.Rules.{Rule, amount}
+use Rattle.paper.specs.declared.Rule.{Rule}
+use Rattle.paper.specs.Rules.{amount}
 use Rattle.paper.specs.Schedule.{setups, need}
 use Rattle.paper.proofs.LoopLaws.{need_from, contradicts_below_need}
 

@@ -10,7 +10,9 @@ use lib.Signed.{◌≤ℤ◌}
 use Rattle.whole.proofs.Lin.{lin, above, minus, negs}
 use Rattle.paper.specs.Network.{Network}
 use Rattle.paper.specs.Chains.{All}
-use Rattle.paper.specs.Rules.{Rule, Setup, Hold, Low, High, base, amount}
+use Rattle.paper.specs.declared.Rule.{Rule}
+use Rattle.paper.specs.declared.Rule.TheVariants.{Setup, Hold, Low, High}
+use Rattle.paper.specs.Rules.{base, amount}
 use Rattle.paper.specs.Schedule.{Schedule, IsLoop, Contradicts, Refutes, Answer, Shown, setups}
 use Rattle.paper.specs.Refusals.{Scheduled, NoPeriod, NoneToCeiling}
 use Rattle.paper.proofs.RuleLaws.{arrow_is_rule, amount_falls}

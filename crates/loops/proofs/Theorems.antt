@@ -5,7 +5,7 @@ use mathlib.Core.Logic.{◌⊎◌, ◌↔◌}
 use mathlib.Core.List.{List}
 use Prim.Native.Nat.{ℕ, ◌≤◌}
 use lib.IntN.{ℤ}
-use Rattle.paper.specs.Rules.{Rule}
+use Rattle.paper.specs.declared.Rule.{Rule}
 use Rattle.paper.specs.File.{network_of}
 use Rattle.paper.specs.Schedule.{IsLoop, Contradicts, Answer, setups}
 use Rattle.paper.specs.Refusals.{Accepted, Scheduled, NoPeriod, NoneToCeiling}

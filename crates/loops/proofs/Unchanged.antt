@@ -12,7 +12,9 @@ use Rattle.whole.proofs.Lin.{lin, above, below, minus, negs}
 use Rattle.paper.specs.Network.{Network}
 use Rattle.paper.specs.Legal.{Legal}
 use Rattle.paper.specs.Chains.{All, Loop}
-use Rattle.paper.specs.Rules.{Rule, Setup, Hold, Low, High, Exists, charged, tail, head, amount}
+use Rattle.paper.specs.declared.Rule.{Rule}
+use Rattle.paper.specs.declared.Rule.TheVariants.{Setup, Hold, Low, High}
+use Rattle.paper.specs.Rules.{Exists, charged, tail, head, amount}
 use Rattle.paper.specs.Schedule.{Schedule, IsLoop, Contradicts, Refutes, Answer, Shown}
 use Rattle.paper.specs.Refusals.{Scheduled, NoPeriod, NoneToCeiling}
 use Rattle.paper.proofs.LoopLaws.{Apart, alone_or_apart}

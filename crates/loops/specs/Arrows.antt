@@ -1,6 +1,7 @@
--- Arrows in memory: three lists, read by place. They know neither a period nor a kind of rule. Schedules and loops of them are those of a
+-- Arrows in memory: a list, read by place. They know neither a period nor a kind of rule. Schedules and loops of them are those of a
 -- web whose arrows are places.
-use Rattle.std.specs.Prelude.{◌≡◌, List, ℕ, ◌<◌, get_or, ℤ, pos, neg_ℤ, ◌≤ℤ◌}
+use Rattle.std.specs.Prelude.{◌≡◌, List, ℕ, ◌<◌, length, get_or, ℤ, pos, neg_ℤ, ◌≤ℤ◌}
+use Rattle.loops.specs.declared.Arrow.{Arrow}
 use Rattle.loops.specs.Webs.{Web}
 use Rattle.loops.specs.Webs as webs
 
@@ -8,26 +9,27 @@ use Rattle.loops.specs.Webs as webs
 pub record Arrows : Type 0 where
   pub registers : ℕ
   pub count : ℕ
-  pub tails : List ℕ
-  pub heads : List ℕ
-  pub amounts : List ℤ
+  pub list : List Arrow
 
--- the first `count` places of three lists as arrows
-abbrev pub arrows : ℕ → ℕ → List ℕ → List ℕ → List ℤ → Arrows
-arrows registers count tails heads amounts =
-    record { registers = registers; count = count; tails = tails; heads = heads; amounts = amounts }
+-- all arrows of a list, between so many registers
+abbrev pub among : ℕ → List Arrow → Arrows
+among registers list = record { registers = registers; count = length list; list = list }
+
+-- the arrow at a place; past the list one that is never read
+abbrev pub arrow_at : List Arrow → ℕ → Arrow
+arrow_at list e = get_or list e (record { tail = 0; head = 0; amount = pos 0 })
 
 -- the register that arrow e leaves
 abbrev pub tail : Arrows → ℕ → ℕ
-tail Γ e = get_or Γ.tails e 0
+tail Γ e = (arrow_at Γ.list e).tail
 
 -- the register that arrow e reaches
 abbrev pub head : Arrows → ℕ → ℕ
-head Γ e = get_or Γ.heads e 0
+head Γ e = (arrow_at Γ.list e).head
 
 -- by how much the head's time is to lie above the tail's
 abbrev pub amount : Arrows → ℕ → ℤ
-amount Γ e = get_or Γ.amounts e (pos 0)
+amount Γ e = (arrow_at Γ.list e).amount
 
 -- there is a host, and every arrow joins two registers
 pub record Sound (Γ : Arrows) : Type 0 where

@@ -2,7 +2,8 @@
 -- the period are a prefix, and only what follows it is filled again for another period. The crate `places` has these functions in code.
 use Rattle.std.specs.Prelude.{cond, ℕ, ◌+◌, ◌-◌, ◌*◌, ◌<◌, ltb}
 use Rattle.paper.specs.Network.{Network}
-use Rattle.paper.specs.Rules.{Rule, Setup, Hold, Low, High}
+use Rattle.paper.specs.declared.Rule.{Rule}
+use Rattle.paper.specs.declared.Rule.TheVariants.{Setup, Hold, Low, High}
 
 -- the low rule of register i, from 1 up
 abbrev pub low_place : ℕ → ℕ

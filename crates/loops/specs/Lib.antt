@@ -10,3 +10,4 @@ pub mod Names
 pub mod RuleFamily
 pub mod Layout
 pub mod Needs
+pub mod Graphs

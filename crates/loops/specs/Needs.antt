@@ -2,7 +2,7 @@
 -- in the paper's words.
 use Rattle.std.specs.Prelude.{◌≡◌, ◌⊎◌, List, ℕ, ◌≤◌, ◌<◌, ℤ, pos, ◌≤ℤ◌}
 use Rattle.paper.specs.Network.{Network}
-use Rattle.paper.specs.Rules.{Rule}
+use Rattle.paper.specs.declared.Rule.{Rule}
 use Rattle.paper.specs.Schedule.{Schedule, IsLoop, Refutes, setups, need}
 
 -- RULES 3.2: "The latency of a register is the smallest that it has in any schedule at this P."

@@ -1,6 +1,8 @@
 -- The paper's rules as a family of arrows: each rule's arrow with its amount at P. Only a setup rule's amount knows P.
 use Rattle.paper.specs.Network.{Network}
-use Rattle.paper.specs.Rules.{Rule, Setup, Hold, Low, High, Exists, tail, head, amount}
+use Rattle.paper.specs.declared.Rule.{Rule}
+use Rattle.paper.specs.declared.Rule.TheVariants.{Setup, Hold, Low, High}
+use Rattle.paper.specs.Rules.{Exists, tail, head, amount}
 use Rattle.loops.specs.Family.{Graph, Family}
 
 -- every rule but a setup rule

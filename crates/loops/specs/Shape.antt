@@ -18,14 +18,12 @@ abbrev pub InRow : ℤ → Type 0
 InRow = Between far_below (pos 1073741824)
 
 -- Sound arrows of modest amounts, at most 256 registers, fewer arrows than two bytes count, so that a number is left over which names none, and
--- lists that are long enough.
+-- a list that is long enough.
 pub record Shape (Γ : Arrows) : Type 0 where
   pub sound : Sound Γ
   pub few : Γ.registers ≤ most_registers
   pub named : Γ.count < no_arrow
-  pub tails_long : Γ.count ≤ length Γ.tails
-  pub heads_long : Γ.count ≤ length Γ.heads
-  pub amounts_long : Γ.count ≤ length Γ.amounts
+  pub long : Γ.count ≤ length Γ.list
   pub modest : (e : ℕ) → e < Γ.count → Modest (amount Γ e)
 
 -- a row of n times, each in its range

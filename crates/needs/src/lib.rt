@@ -2,49 +2,47 @@
 // unit of the period, so that what the sum is over, shared among the k and rounded up, is by how much the period has to rise.
 #![tactic(auto)]
 
-ghost use Rattle.std.specs.Prelude.{◌≡◌, List, ℕ, length, take};
+ghost use Rattle.std.specs.Prelude.{◌≡◌, length};
 ghost use Rattle.needs.specs.Raising.{Places, sum_at, setups_at, Raisable, Raised};
 
+use loops::Arrow;
+use paper::Rule;
+
 // What the amounts of the listed arrows add up to. A loop's sum can leave 32 bits, so it is kept in 64.
-pub fn total_of(amount: &[i32], ring: &[u16], entries: usize) -> i64
-    requires { Places (length amount.now) ring.now entries }
-    ensures { result ≡ sum_at amount.now (take entries ring.now) }
+pub fn total_of(arrows: &[Arrow], ring: &[u16]) -> i64
+    requires { Places (length arrows.now) ring.now }
+    ensures { result ≡ sum_at arrows.now ring.now }
 {
-    // `sum` is the sum of the first j entries' amounts.
     let mut sum: i64 = 0;
-    let mut j = 0;
-    while j < entries {
-        let e = ring[j] as usize;
-        sum += amount[e] as i64;
-        j += 1;
+    // Kept: the library bounds the `sum` of an iterator only where its numbers have no sign.
+    for &e in ring {
+        sum += i64::from(arrows[usize::from(e)].amount);
     }
     sum
 }
 
-// How many of the listed arrows are those of setup rules: the kind at the place tells.
-pub fn setups_of(kind: &[u8], ring: &[u16], entries: usize) -> usize
-    requires { Places (length kind.now) ring.now entries }
-    ensures { (numbers : List ℕ) → result ≡ setups_at kind.now numbers (take entries ring.now) }
+// How many of the listed arrows are those of setup rules.
+pub fn setups_of(rules: &[Rule], ring: &[u16]) -> usize
+    requires { Places (length rules.now) ring.now }
+    ensures { result ≡ setups_at rules.now ring.now }
 {
-    // `count` of the first j entries are those of setup rules.
     let mut count = 0;
-    let mut j = 0;
-    while j < entries {
-        let e = ring[j] as usize;
-        if kind[e] == 0 {
+    // `count` of the entries passed are those of setup rules.
+    // Kept: of a closure that reads a list of rules the prover does not find that the place is in it.
+    for &e in ring {
+        if rules[usize::from(e)].is_setup() {
             count += 1;
         }
-        j += 1;
     }
     count
 }
 
 // The next period that the loop allows, from its arrows' amounts at `period`.
-pub fn next(amount: &[i32], kind: &[u8], period: i32, ring: &[u16], entries: usize) -> i32
-    requires { Raisable amount.now kind.now period ring.now entries }
-    ensures { Raised amount.now kind.now period (take entries ring.now) result }
+pub fn next(arrows: &[Arrow], rules: &[Rule], period: i32, ring: &[u16]) -> i32
+    requires { Raisable arrows.now rules.now period ring.now }
+    ensures { Raised arrows.now rules.now period ring.now result }
 {
-    let over = total_of(amount, ring, entries);
-    let k = setups_of(kind, ring, entries);
+    let over = total_of(arrows, ring);
+    let k = setups_of(rules, ring);
     period + whole::round_up(over, k) as i32
 }

@@ -1,18 +1,15 @@
 -- What a search for a faulty record answers, and what a look at the records alone finds.
-use Rattle.std.specs.Prelude.{◌≡◌, List, Bool, true, ℕ, ◌+◌, ◌*◌, ◌≤◌, ◌<◌, length}
-use Rattle.paper.specs.declared.Verdict.{Verdict}
+use Rattle.std.specs.Prelude.{◌≡◌, List, Bool, true, ℕ, ◌+◌, ◌*◌, ◌≤◌, ◌<◌, length, Option, Some, None}
 use Rattle.paper.specs.File.{registers}
 use Rattle.paper.specs.Table.{Lowest, Given}
 use Rattle.paper.specs.Refusals.{record_faults}
-use Rattle.paper.specs.Numbers.{verdict_number, verdict_place}
-use Rattle.network.specs.declared.fault.Found.{Found}
-use Rattle.network.specs.declared.fault.Found.TheVariants.{At, Nothing}
+use Rattle.paper.specs.Numbers.{Verdict, verdict_number, verdict_place}
 use Rattle.paper.specs.Limits.{most_registers}
 
 -- the lowest record of which the test fails, or nothing where every record passes
-abbrev pub Sought : (ℕ → Bool) → ℕ → Found → Type 0
-Sought ok n (At p) = Lowest ok n p
-Sought ok n Nothing = (p : ℕ) → p < n → ok p ≡ true
+abbrev pub Sought : (ℕ → Bool) → ℕ → Option ℕ → Type 0
+Sought ok n (Some p) = Lowest ok n p
+Sought ok n None = (p : ℕ) → p < n → ok p ≡ true
 
 -- n is the file's count of registers, and the file is long enough for m paths after them
 pub record PathsThere (f : List ℕ) (n m : ℕ) : Type 0 where

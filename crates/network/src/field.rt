@@ -1,15 +1,14 @@
-// One field of the header, or one number of a record, tested. Signed numbers are compared within these functions alone, which answer a
-// bool or a count.
-ghost use Rattle.std.specs.Prelude.{◌≡◌, ◌&&◌, ◌+◌, ◌≤◌, pos, ◌-ℤ◌, length};
-ghost use Rattle.std.specs.Int.Signed.{le_z};
+// One field of the header, or one number of a record: tested, or read as a count.
+ghost use Rattle.std.specs.Prelude.{◌≡◌, ◌+◌, ◌≤◌, pos, ◌-ℤ◌, length};
 ghost use Rattle.whole.specs.Four.{number_at};
 ghost use Rattle.paper.specs.File.{natural, marked, within, windowed};
 ghost use Rattle.paper.specs.Limits.{most_registers};
 
 use paper::limits;
-use whole::{both, within};
+use whole::within;
 
 // The letters a and b at a place.
+#[tactic(auto, unfolding(paper::specs::File::marked))]
 pub fn marked(file: &[u8], at: usize, a: u8, b: u8) -> bool
     requires { at + 2 ≤ length file.now }
     ensures { result ≡ marked file.now at a b }
@@ -21,7 +20,7 @@ pub fn marked(file: &[u8], at: usize, a: u8, b: u8) -> bool
 pub fn natural(z: i32) -> usize
     ensures { result ≡ natural z }
 {
-    if z < 0 { 0 } else { z as usize }
+    usize::try_from(z).unwrap_or(0)
 }
 
 // The number at a place, counted from 0 up.
@@ -57,22 +56,14 @@ pub fn named(z: i32, n: usize) -> bool
 }
 
 // A register's window: both ends 0 for register 0.
+#[tactic(auto, unfolding(paper::specs::File::windowed))]
 pub fn windowed(i: usize, low: i32, high: i32) -> bool
     ensures { result ≡ windowed i low high }
 {
     if i == 0 {
-        both(within(0, 0, low), within(0, 0, high))
+        within(0, 0, low) && within(0, 0, high)
     } else {
-        both(
-            within(limits::LEAST_LATENCY, limits::MOST_LATENCY, low),
-            within(low, limits::MOST_LATENCY, high),
-        )
+        within(limits::LEAST_LATENCY, limits::MOST_LATENCY, low)
+            && within(low, limits::MOST_LATENCY, high)
     }
-}
-
-// The number is from 0 up.
-pub fn from_zero(z: i32) -> bool
-    ensures { result ≡ le_z (pos 0) z }
-{
-    0 <= z
 }

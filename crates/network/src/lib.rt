@@ -11,11 +11,10 @@ mod fault;
 pub mod field;
 pub mod read;
 
-use fault::Found;
-use paper::{Delay, Fault, Latency, Verdict};
+use paper::{Delay, Fault, Latency};
 
 // What the header says, but for the clock uncertainty, which each path carries.
-#[derive(Clone, Copy)]
+#[derive(Clone, Copy, PartialEq, Eq, Debug)]
 pub struct Header {
     pub registers: usize,
     pub paths: usize,
@@ -24,7 +23,7 @@ pub struct Header {
 }
 
 // Register 0 is the host, whose window is 0 to 0.
-#[derive(Clone, Copy)]
+#[derive(Clone, Copy, PartialEq, Eq, Debug)]
 pub struct Register {
     pub setup: Delay,
     pub hold: Delay,
@@ -33,7 +32,7 @@ pub struct Register {
 }
 
 // The uncertainty is that of which the path's rules are charged: all of it in setup, and in hold what `rules::charged` says.
-#[derive(Clone, Copy)]
+#[derive(Clone, Copy, PartialEq, Eq, Debug)]
 pub struct Path {
     pub from: usize,
     pub to: usize,
@@ -43,43 +42,38 @@ pub struct Path {
 }
 
 // The first of the numbers 1 to 6 that applies, with its place, or that the file is accepted.
-pub fn judge(file: &[u8]) -> Verdict
+#[tactic(auto, unfolding(paper::specs::File::headed))]
+pub fn judge(file: &[u8]) -> Result<(), Fault>
     ensures { Judged file.now result }
 {
     if !fault::headed(file) {
-        return Verdict::Faulty(Fault::Header);
+        return Err(Fault::Header);
     }
     if !fault::counted(file) {
-        return Verdict::Faulty(Fault::Counts);
+        return Err(Fault::Counts);
     }
-    // Neither test reads a record, so both are run, and the order of the answers stands by itself.
-    let length = fault::sized(file);
-    let ranges = fault::ranged(file);
-    if !length {
-        return Verdict::Faulty(Fault::Length);
+    if !fault::sized(file) {
+        return Err(Fault::Length);
     }
-    if !ranges {
-        return Verdict::Faulty(Fault::Ranges);
+    if !fault::ranged(file) {
+        return Err(Fault::Ranges);
     }
     judge_records(file)
 }
 
 // The first of the numbers 5 and 6 that applies to a file of the right length.
-fn judge_records(file: &[u8]) -> Verdict
+#[tactic(auto, using(paper::proofs::Legal::counts_to), unfolding(paper::specs::File::sized))]
+fn judge_records(file: &[u8]) -> Result<(), Fault>
     requires { (counted file.now ≡ true) × (sized file.now ≡ true) }
     ensures { RecordsJudged file.now result }
 {
     let n = field::count(file, 2);
     let m = field::count(file, 6);
-    let register = fault::lowest_register(file, n);
-    match register {
-        Found::At(i) => Verdict::Faulty(Fault::Register(i)),
-        Found::Nothing => {
-            let path = fault::lowest_path(file, n, m);
-            match path {
-                Found::At(p) => Verdict::Faulty(Fault::Path(p)),
-                Found::Nothing => Verdict::Accepted,
-            }
-        }
+    if let Some(i) = fault::lowest_register(file, n) {
+        return Err(Fault::Register(i));
     }
+    if let Some(p) = fault::lowest_path(file, n, m) {
+        return Err(Fault::Path(p));
+    }
+    Ok(())
 }

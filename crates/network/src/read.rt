@@ -7,6 +7,7 @@ ghost use Rattle.network.specs.Records.{IsHeader, IsRegister, IsPath, PathThere}
 use crate::{Header, Path, Register, field};
 use paper::{Delay, Latency};
 
+#[tactic(auto, using(paper::proofs::Legal::accepted_length, paper::proofs::Naturals::accepted_read), unfolding(paper::specs::File::network_of))]
 pub fn header(file: &[u8]) -> Header
     requires { Accepted file.now }
     ensures { IsHeader (network_of file.now) result }
@@ -19,6 +20,7 @@ pub fn header(file: &[u8]) -> Header
     }
 }
 
+#[tactic(auto, using(paper::proofs::Legal::accepted_length), unfolding(paper::specs::File::network_of))]
 pub fn register(file: &[u8], i: usize) -> Register
     requires { Accepted file.now × (i < (network_of file.now).registers) }
     ensures { IsRegister (network_of file.now) i result }
@@ -33,6 +35,7 @@ pub fn register(file: &[u8], i: usize) -> Register
 }
 
 // The caller has the count n of registers at hand, by which the place of a path's record is found.
+#[tactic(auto, using(paper::proofs::Legal::accepted_length), unfolding(paper::specs::File::network_of))]
 pub fn path(file: &[u8], n: usize, p: usize) -> Path
     requires { PathThere file.now n p }
     ensures { IsPath (network_of file.now) p result }

@@ -10,14 +10,14 @@ use lib.ListN.{length, get_or, take}
 use lib.Seq.{get_or-take, length-take-le}
 use borrow.Author.Tests.{ne_eqb, le-leb}
 use Rattle.whole.specs.Four.{number_at, word_at}
-use Rattle.paper.specs.declared.Outcome.{Outcome}
-use Rattle.paper.specs.declared.Outcome.TheVariants as outcome
+use Rattle.std.specs.Prelude.{Ok, Err}
+use Rattle.paper.specs.declared.Unanswered.TheVariants as unanswered
 use Rattle.paper.specs.Limits.{most_registers, most_paths}
 use Rattle.paper.specs.Network.{Network}
 use Rattle.paper.specs.File.{marked, headed, counted, sized, registers, paths, network_of}
 use Rattle.paper.specs.Table.{Row, Fails, Given}
 use Rattle.paper.specs.Refusals.{faults, schedule_rows}
-use Rattle.paper.specs.Numbers.{outcome_number, outcome_place}
+use Rattle.paper.specs.Numbers.{Outcome, outcome_number, outcome_place}
 use Rattle.paper.specs.Outcome.{Left, FileResult}
 use Rattle.paper.proofs.Legal.{passes, counts_to}
 
@@ -60,11 +60,11 @@ same_given f g more others n p h c lf lg (inr (s, inr (t, inr (l, rest)))) = abs
 -- 1, 2 and 3 leave the output untouched, whatever network the file would mean
 same_left : (N M : Network) (o : Outcome) (before after : List ℕ) → 1 ≤ outcome_number o → outcome_number o ≤ 3
     → Left N o before after → Left M o before after
-same_left N M outcome.Answered before after a b l = absurd (omega arith)
-same_left N M (outcome.Refused x) before after a b l = l
-same_left N M outcome.Room before after a b l = absurd (omega arith)
-same_left N M outcome.NoPeriod before after a b l = absurd (omega arith)
-same_left N M outcome.NoneToCeiling before after a b l = absurd (omega arith)
+same_left N M (Ok tt) before after a b l = absurd (omega arith)
+same_left N M (Err (unanswered.Refused x)) before after a b l = l
+same_left N M (Err unanswered.Room) before after a b l = absurd (omega arith)
+same_left N M (Err unanswered.NoPeriod) before after a b l = absurd (omega arith)
+same_left N M (Err unanswered.NoneToCeiling) before after a b l = absurd (omega arith)
 
 -- so results of the one are results of the other: the tests of the header alone decide
 pub same_result : (f g : List ℕ) → headed f ≡ headed g → counted f ≡ counted g → TooLong f → TooLong g

@@ -15,7 +15,9 @@ use Rattle.whole.specs.Rounding.{round_up}
 use Rattle.whole.proofs.Lin.{lin, plus, minus, negs, above, below}
 use Rattle.whole.proofs.Rounding.{times, up_enough, up_least, up_only}
 use Rattle.paper.specs.Network.{Network}
-use Rattle.paper.specs.Rules.{Rule, Setup, Hold, Low, High, Exists, tail, head, base, amount}
+use Rattle.paper.specs.declared.Rule.{Rule}
+use Rattle.paper.specs.declared.Rule.TheVariants.{Setup, Hold, Low, High}
+use Rattle.paper.specs.Rules.{Exists, tail, head, base, amount}
 use Rattle.paper.specs.Chains.{All, Chain, Once, Loop}
 use Rattle.paper.specs.Schedule.{Schedule, IsLoop, Contradicts, setups, need, Refutes}
 use Rattle.paper.proofs.RuleLaws.{arrow_is_rule, schedule_stays}

@@ -14,16 +14,16 @@ use Rattle.paper.specs.declared.Fault.{Fault}
 use Rattle.paper.specs.declared.Fault.TheVariants.{Header, Counts, Length, Ranges, Register, Path}
 use Rattle.paper.specs.declared.Refusal.{Refusal}
 use Rattle.paper.specs.declared.Refusal.TheVariants.{File, Question}
-use Rattle.paper.specs.declared.Outcome.{Outcome}
-use Rattle.paper.specs.declared.Outcome.TheVariants as outcome
+use Rattle.std.specs.Prelude.{Ok, Err}
+use Rattle.paper.specs.declared.Unanswered.TheVariants as unanswered
 use Rattle.paper.specs.declared.Delay.{Delay}
-use Rattle.paper.specs.declared.Reply.{Reply}
-use Rattle.paper.specs.declared.Reply.TheVariants as reply
 use Rattle.paper.specs.Network.{Network}
-use Rattle.paper.specs.Rules.{Rule, Setup, Hold, Low, High, kind, number}
+use Rattle.paper.specs.declared.Rule.{Rule}
+use Rattle.paper.specs.declared.Rule.TheVariants.{Setup, Hold, Low, High}
+use Rattle.paper.specs.Rules.{kind, number}
 use Rattle.paper.specs.Table.{Row}
 use Rattle.paper.specs.Refusals.{faults}
-use Rattle.paper.specs.Numbers.{fault_number, fault_place, refusal_number, refusal_place, outcome_number, outcome_place, reply_number, reply_place}
+use Rattle.paper.specs.Numbers.{Outcome, Reply, fault_number, fault_place, refusal_number, refusal_place, outcome_number, outcome_place, reply_number, reply_place}
 use Rattle.paper.specs.Outcome.{Result}
 use Rattle.paper.specs.Question as asking
 use Rattle.paper.proofs.TableLaws.{OnePlaces, ByRow, given_one}
@@ -118,26 +118,26 @@ faults_refuse f n p b = let x = fault_of_row f n p b in (File x.0, x.1, x.2)
 
 -- the refusal that an outcome is, or none
 abbrev pub refusal_in : Outcome → Found
-refusal_in outcome.Answered = none
-refusal_in (outcome.Refused x) = found x
-refusal_in outcome.Room = none
-refusal_in outcome.NoPeriod = none
-refusal_in outcome.NoneToCeiling = none
+refusal_in (Ok tt) = none
+refusal_in (Err (unanswered.Refused x)) = found x
+refusal_in (Err unanswered.Room) = none
+refusal_in (Err unanswered.NoPeriod) = none
+refusal_in (Err unanswered.NoneToCeiling) = none
 
 -- an outcome is known from its number and place
 pub outcome_known : (a b : Outcome) → outcome_number a ≡ outcome_number b → outcome_place a ≡ outcome_place b → a ≡ b
 outcome_known a b n p = sym (back a) ∙ ap₂ (λ n p. outcome_of (refusal_of n p) n) n p ∙ back b
   where
     outcome_of : Found → ℕ → Outcome
-    outcome_of none n = cond (eqb n 0) outcome.Answered (cond (eqb n 7) outcome.Room (cond (eqb n 8) outcome.NoPeriod outcome.NoneToCeiling))
-    outcome_of (found x) n = outcome.Refused x
+    outcome_of none n = cond (eqb n 0) (Ok tt) (cond (eqb n 7) (Err unanswered.Room) (cond (eqb n 8) (Err unanswered.NoPeriod) (Err unanswered.NoneToCeiling)))
+    outcome_of (found x) n = Err (unanswered.Refused x)
 
     back : (o : Outcome) → outcome_of (refusal_of (outcome_number o) (outcome_place o)) (outcome_number o) ≡ o
-    back outcome.Answered = refl
-    back (outcome.Refused x) = ap (λ k. outcome_of k (refusal_number x)) (refusal_back x)
-    back outcome.Room = refl
-    back outcome.NoPeriod = refl
-    back outcome.NoneToCeiling = refl
+    back (Ok tt) = refl
+    back (Err (unanswered.Refused x)) = ap (λ k. outcome_of k (refusal_number x)) (refusal_back x)
+    back (Err unanswered.Room) = refl
+    back (Err unanswered.NoPeriod) = refl
+    back (Err unanswered.NoneToCeiling) = refl
 
 -- one outcome, whatever is left in the output
 pub outcome_one : {N : Network} {rows : List Row} {before after after' : List ℕ} {o o' : Outcome} → OnePlaces rows
@@ -172,15 +172,15 @@ module _ (N : Network) (q : asking.Question) where
       rule_named r s (omega lin) (omega lin)
 
   -- so two slacks that answer it are one
-  one_slack : (d e : Delay) → asking.Says N q (reply.Slack d) → asking.Says N q (reply.Slack e) → reply.Slack d ≡ reply.Slack e
+  one_slack : (d e : Delay) → asking.Says N q (Ok d) → asking.Says N q (Ok e) → ◌≡◌ {A = Reply} (Ok d) (Ok e)
   one_slack d e (r, a, k) (s, b, l) = ap asking.with_slack (k ∙ sym (rw (asked_one r s a b) l))
 
   -- a slack is known from the rule that is asked for, a refusal from its number and place, which no slack has
   said_one : (a b : Reply) → reply_number a ≡ reply_number b → reply_place a ≡ reply_place b → asking.Says N q a → asking.Says N q b → a ≡ b
-  said_one (reply.Slack d) (reply.Slack e) n p s t = one_slack d e s t
-  said_one (reply.Slack d) (reply.Refused y) n p s t = absurd (refusal_apart y 0 (λ p. refl) n)
-  said_one (reply.Refused x) (reply.Slack e) n p s t = absurd (refusal_apart x 0 (λ p. refl) (sym n))
-  said_one (reply.Refused x) (reply.Refused y) n p s t = ap reply.Refused (refusal_known x y n p)
+  said_one (Ok d) (Ok e) n p s t = one_slack d e s t
+  said_one (Ok d) (Err y) n p s t = absurd (refusal_apart y 0 (λ p. refl) n)
+  said_one (Err x) (Ok e) n p s t = absurd (refusal_apart x 0 (λ p. refl) (sym n))
+  said_one (Err x) (Err y) n p s t = ap Err (refusal_known x y n p)
 
 -- RULES 15.1: "A rule question that is not refused answers one whole number": no two replies answer one question
 pub reply_one : {N : Network} {rows : List Row} {q : asking.Question} {a b : Reply} → OnePlaces rows

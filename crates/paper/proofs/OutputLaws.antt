@@ -10,7 +10,7 @@ use lib.ListN.{length, length-append}
 use lib.Seq.{sets, sets-eq}
 use Rattle.whole.specs.Four.{number_at, word_at, four, bytes_of}
 use Rattle.whole.proofs.Four.{number_first, four-length}
-use Rattle.paper.specs.Rules.{Rule}
+use Rattle.paper.specs.declared.Rule.{Rule}
 use Rattle.paper.specs.Output.{skew_record, latency_records, entry_records, Front}
 
 -- ---- 14 bytes, 6 for each latency, 10 for each entry (RULES 7.2 to 7.4)

@@ -7,7 +7,9 @@ use lib.IntN.{ℤ, pos, neg_ℤ, ◌+ℤ◌, ◌-ℤ◌}
 use lib.Signed.{◌≤ℤ◌}
 use Rattle.whole.proofs.Lin.{lin, plus, minus, negs}
 use Rattle.paper.specs.Network.{Network}
-use Rattle.paper.specs.Rules.{Rule, Setup, Hold, Low, High, Holds, HoldsAs, ◌≥ℤ◌, charged, tail, head, base, amount, slack}
+use Rattle.paper.specs.declared.Rule.{Rule}
+use Rattle.paper.specs.declared.Rule.TheVariants.{Setup, Hold, Low, High}
+use Rattle.paper.specs.Rules.{Holds, HoldsAs, ◌≥ℤ◌, charged, tail, head, base, amount, slack}
 use Rattle.paper.specs.Schedule.{Schedule}
 use Rattle.paper.proofs.ChargeLaws.{self_path_uncharged}
 

@@ -12,9 +12,11 @@ use lib.Signed.{◌≤ℤ◌, ◌<ℤ◌}
 use Rattle.whole.specs.Sums.{total}
 use Rattle.whole.proofs.Lin.{lin, plus, minus}
 use Rattle.paper.specs.declared.Delay.{Delay}
-use Rattle.paper.specs.declared.Reply.TheVariants as reply
+use Rattle.std.specs.Prelude.{Ok}
 use Rattle.paper.specs.Network.{Network}
-use Rattle.paper.specs.Rules.{Rule, Setup, Hold, Low, High, HoldsAs, ◌≥ℤ◌, tail, head, amount, slack_by}
+use Rattle.paper.specs.declared.Rule.{Rule}
+use Rattle.paper.specs.declared.Rule.TheVariants.{Setup, Hold, Low, High}
+use Rattle.paper.specs.Rules.{HoldsAs, ◌≥ℤ◌, tail, head, amount, slack_by}
 use Rattle.paper.specs.Chains.{Chain, Loop}
 use Rattle.paper.specs.Schedule.{Schedule, IsLoop, Contradicts, setups}
 use Rattle.paper.specs.File.{natural}
@@ -30,7 +32,7 @@ not_from_zero : (z : ℤ) → (z ≥ℤ pos 0 → ⊥) → z <ℤ pos 0
 not_from_zero (pos n) h = absurd (h (omega lin))
 not_from_zero (negsuc n) h = omega lin
 
-module _ (N : Network) (q : Question) (d : Delay) (says : Says N q (reply.Slack d)) (r : Rule) (asked-for : Asked N q r) where
+module _ (N : Network) (q : Question) (d : Delay) (says : Says N q (Ok d)) (r : Rule) (asked-for : Asked N q r) where
   -- a question asks for one rule, so the slack that is told is this one's
   pub slack_told : d.0 ≡ slack_asked N q r
   slack_told = says.2 ∙ rw (asked_one N q says.0 r says.1 asked-for)
@@ -40,10 +42,10 @@ module _ (N : Network) (q : Question) (d : Delay) (says : Says N q (reply.Slack 
   Written = HoldsAs N (natural q.period) r q.tail_latency q.head_latency
 
   -- RULES 8.5: "the answer is yes exactly when the inequality of the rule holds, and else no"
-  pub slack_yes : Yes (reply.Slack d) ↔ Written
+  pub slack_yes : Yes (Ok d) ↔ Written
   slack_yes = rw slack_told (met_is_written N (natural q.period) r q.tail_latency q.head_latency)
 
-  pub slack_no : No (reply.Slack d) ↔ (Written → ⊥)
+  pub slack_no : No (Ok d) ↔ (Written → ⊥)
   slack_no = ((λ n h. let y = slack_yes.1 h in omega lin), (λ n. not_from_zero d.0 (λ y. n (slack_yes.0 y))))
 
 -- ---- around a loop

@@ -7,7 +7,8 @@
 use Rattle.std.specs.Prelude.{◌≡◌, List, [], ◌∷◌, ◌++◌, ℕ, zero, suc, ℤ, pos, length, drop}
 use Rattle.whole.specs.Four.{four}
 use Rattle.paper.specs.Network.{Network}
-use Rattle.paper.specs.Rules.{Rule, kind, number}
+use Rattle.paper.specs.declared.Rule.{Rule}
+use Rattle.paper.specs.Rules.{kind, number}
 use Rattle.paper.specs.Schedule.{Answer, Refutes, Shown, setups}
 
 abbrev pub skew_record : ℕ → ℕ → ℕ → List ℕ

@@ -6,15 +6,14 @@
 -- RULES 8.7: "A latency of the host other than 0 is no ground to refuse. Setup and hold rules take it as it is given. Low and high rules do
 -- not read it"
 -- RULES 8.8: "On a path from a register to itself both latencies are taken as they are given, even when they differ."
-use Rattle.std.specs.Prelude.{◌≡◌, List, [], ◌∷◌, ◌++◌, true, ℕ, ℤ, pos, ◌<ℤ◌}
-use Rattle.paper.specs.declared.Reply.{Reply}
-use Rattle.paper.specs.declared.Reply.TheVariants as reply
+use Rattle.std.specs.Prelude.{◌≡◌, List, [], ◌∷◌, ◌++◌, true, ℕ, ℤ, pos, ◌<ℤ◌, Ok, Err}
 use Rattle.paper.specs.Network.{Network}
-use Rattle.paper.specs.Rules.{Rule, kind, number, Exists, ◌≥ℤ◌, slack}
+use Rattle.paper.specs.declared.Rule.{Rule}
+use Rattle.paper.specs.Rules.{kind, number, Exists, ◌≥ℤ◌, slack}
 use Rattle.paper.specs.File.{natural, within, network_of}
 use Rattle.paper.specs.Table.{Row, When, Given}
 use Rattle.paper.specs.Refusals.{faults}
-use Rattle.paper.specs.Numbers.{reply_number, reply_place}
+use Rattle.paper.specs.Numbers.{Reply, reply_number, reply_place}
 use Rattle.paper.specs.Limits.{most_period, least_latency, most_latency}
 
 -- a question: the period, the rule's kind and number, the latencies at the arrow's tail and head
@@ -59,8 +58,8 @@ question_refusals f q = faults f ++ question_rows (network_of f) q
 -- RULES 15.1: "A rule question that is not refused answers one whole number of picoseconds, the slack of the rule that is asked for."
 -- RULES 15.5: "A refusal carries no slack."
 abbrev pub Says : Network → Question → Reply → Type 0
-Says N q (reply.Slack d) = (r : Rule) × Asked N q r × (d.0 ≡ slack_asked N q r)
-Says N q (reply.Refused x) = Unit {0}
+Says N q (Ok d) = (r : Rule) × Asked N q r × (d.0 ≡ slack_asked N q r)
+Says N q (Err x) = Unit {0}
 
 -- The rule question, given the network N, with these rows for its table of numbers, may return o.
 pub record Answers (N : Network) (rows : List Row) (q : Question) (o : Reply) : Type 0 where
@@ -73,13 +72,13 @@ FileAnswers f q o = Answers (network_of f) (question_refusals f q) q o
 
 -- the reply that tells the slack z
 abbrev pub with_slack : ℤ → Reply
-with_slack z = reply.Slack (record { 0 = z })
+with_slack z = Ok (record { 0 = z })
 
 -- RULES 15.4: "Yes is a slack of at least 0, and no is a slack below 0." RULES 8.6: "A refusal is neither."
 abbrev pub Yes : Reply → Type 0
-Yes (reply.Slack d) = d.0 ≥ℤ pos 0
-Yes (reply.Refused x) = ⊥
+Yes (Ok d) = d.0 ≥ℤ pos 0
+Yes (Err x) = ⊥
 
 abbrev pub No : Reply → Type 0
-No (reply.Slack d) = d.0 <ℤ pos 0
-No (reply.Refused x) = ⊥
+No (Ok d) = d.0 <ℤ pos 0
+No (Err x) = ⊥

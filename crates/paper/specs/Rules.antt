@@ -6,16 +6,15 @@
 -- | hold, of a path from i to j | 1 | x_i + dmin >= x_j + h_j + c | j, i | h_j + c - dmin |
 -- | low, of a register i from 1 up | 2 | x_i >= low_i | 0, i | low_i |
 -- | high, of a register i from 1 up | 3 | x_i <= high_i | i, 0 | -high_i |
-use Rattle.std.specs.Prelude.{ℕ, ◌<◌, cond, eqb, ℤ, pos, neg_ℤ, ◌+ℤ◌, ◌-ℤ◌, ◌≤ℤ◌}
+use Rattle.std.specs.Prelude.{Bool, true, false, ℕ, ◌<◌, cond, eqb, ℤ, pos, neg_ℤ, ◌+ℤ◌, ◌-ℤ◌, ◌≤ℤ◌}
 use Rattle.paper.specs.Network.{Network}
+use Rattle.paper.specs.declared.Rule.{Rule}
+use Rattle.paper.specs.declared.Rule.TheVariants.{Setup, Hold, Low, High}
 
 -- RULES 2.4: "A setup or hold rule is named by its kind and the number of its path, a low or high rule by its kind and the number of its
 -- register."
-pub data Rule : Type 0 where
-  Setup : ℕ → Rule
-  Hold : ℕ → Rule
-  Low : ℕ → Rule
-  High : ℕ → Rule
+--
+-- Rule is the code's own type, so that a rule in memory is a rule of the paper: Setup p, Hold p, Low i, High i.
 
 abbrev pub kind : Rule → ℕ
 kind (Setup p) = 0
@@ -28,6 +27,13 @@ number (Setup p) = p
 number (Hold p) = p
 number (Low i) = i
 number (High i) = i
+
+-- a setup rule: the period is in the amounts of these alone
+abbrev pub is_setup : Rule → Bool
+is_setup (Setup p) = true
+is_setup (Hold p) = false
+is_setup (Low i) = false
+is_setup (High i) = false
 
 -- What the hold rule of a path is charged of its uncertainty u, by the path's two ends. RULES 16.2: "The hold rule of a self path is charged
 -- nothing of u. The hold rule of every other path is charged u, once."

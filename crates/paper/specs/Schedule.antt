@@ -3,7 +3,9 @@ use Rattle.std.specs.Prelude.{◌≡◌, List, [], ◌∷◌, ℕ, suc, ◌-◌,
 use Rattle.whole.specs.Sums.{total}
 use Rattle.whole.specs.Rounding.{round_up}
 use Rattle.paper.specs.Network.{Network}
-use Rattle.paper.specs.Rules.{Rule, Setup, Hold, Low, High, Exists, Holds, tail, head, base, amount}
+use Rattle.paper.specs.declared.Rule.{Rule}
+use Rattle.paper.specs.declared.Rule.TheVariants.{Setup, Hold, Low, High}
+use Rattle.paper.specs.Rules.{Exists, Holds, tail, head, base, amount}
 use Rattle.paper.specs.Chains.{All, Loop, Listed}
 
 -- RULES 3.1: "A schedule at P gives every register one whole latency, and the host 0, so that all rules are met."

@@ -1,5 +1,5 @@
 -- Counts that leave room in a machine word for every place.
-use Rattle.std.specs.Prelude.{ℕ, ◌≤◌, ◌<◌}
+use Rattle.std.specs.Prelude.{ℕ, ◌≤◌}
 
 -- more than any file has of either, and few enough that no sum of places leaves its width
 abbrev pub most_counted : ℕ
@@ -10,9 +10,3 @@ pub record Few (n m : ℕ) : Type 0 where
   pub some : 1 ≤ n
   pub registers : n ≤ most_counted
   pub paths : m ≤ most_counted
-
--- of n registers i is not the host, and so has a low and a high rule
-pub record HasWindow (n i : ℕ) : Type 0 where
-  pub other : 0 < i
-  pub below : i < n
-  pub few : n ≤ most_counted

@@ -4,9 +4,9 @@
 
 ghost use Rattle.std.specs.Prelude.{◌≡◌, ◌<◌};
 ghost use Rattle.loops.specs.Layout.{low_place, high_place, hold_place, setup_place, fixed_places, all_places};
-ghost use Rattle.places.specs.Few.{Few, HasWindow};
+ghost use Rattle.places.specs.Few.{Few};
 
-// The low rule of register i, which is not the host.
+// The low rule of register i, which is not the host, in every network.
 pub fn low(i: usize) -> usize
     requires { 0 < i }
     ensures { result ≡ low_place i }
@@ -14,42 +14,51 @@ pub fn low(i: usize) -> usize
     i - 1
 }
 
-// The high rule of register i.
-pub fn high(n: usize, i: usize) -> usize
-    requires { HasWindow n i }
-    ensures { result ≡ high_place n i }
-{
-    (n - 1) + (i - 1)
+// The places of a network's other rules, by how many registers and paths it has.
+#[derive(Clone, Copy, PartialEq, Eq, Debug)]
+pub struct Places {
+    pub registers: usize,
+    pub paths: usize,
+    ghost few: { Few registers paths },
 }
 
-// The hold rule of path p.
-pub fn hold(n: usize, m: usize, p: usize) -> usize
-    requires { (Few n m) × (p < m) }
-    ensures { result ≡ hold_place n p }
-{
-    2 * (n - 1) + p
-}
+impl Places {
+    // The high rule of register i, which is not the host.
+    pub fn high(self, i: usize) -> usize
+        requires other { 0 < i }
+        requires below { i < self.registers }
+        ensures { result ≡ high_place self.registers i }
+    {
+        (self.registers - 1) + (i - 1)
+    }
 
-// The setup rule of path p.
-pub fn setup(n: usize, m: usize, p: usize) -> usize
-    requires { (Few n m) × (p < m) }
-    ensures { result ≡ setup_place n m p }
-{
-    fixed(n, m) + p
-}
+    // The hold rule of path p.
+    pub fn hold(self, p: usize) -> usize
+        requires { p < self.paths }
+        ensures { result ≡ hold_place self.registers p }
+    {
+        2 * (self.registers - 1) + p
+    }
 
-// How many rules do not know the period: they stand before all that do.
-pub fn fixed(n: usize, m: usize) -> usize
-    requires { Few n m }
-    ensures { result ≡ fixed_places n m }
-{
-    2 * (n - 1) + m
-}
+    // The setup rule of path p.
+    pub fn setup(self, p: usize) -> usize
+        requires { p < self.paths }
+        ensures { result ≡ setup_place self.registers self.paths p }
+    {
+        self.fixed() + p
+    }
 
-// How many rules there are.
-pub fn all(n: usize, m: usize) -> usize
-    requires { Few n m }
-    ensures { result ≡ all_places n m }
-{
-    2 * (n - 1) + 2 * m
+    // How many rules do not know the period: they stand before all that do.
+    pub fn fixed(self) -> usize
+        ensures { result ≡ fixed_places self.registers self.paths }
+    {
+        2 * (self.registers - 1) + self.paths
+    }
+
+    // How many rules there are.
+    pub fn all(self) -> usize
+        ensures { result ≡ all_places self.registers self.paths }
+    {
+        2 * (self.registers - 1) + 2 * self.paths
+    }
 }

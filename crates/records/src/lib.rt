@@ -6,9 +6,12 @@ ghost use Rattle.records.specs.Records.{IsRecord};
 
 pub mod reader;
 
+use reader::Reader;
+
 // A record of 18 bytes: the initial and the last letter of its mark, its four numbers, whatever they stand for, and the place of the next
 // record.
-#[derive(Clone, Copy)]
+// Kept: `IsRecord` says where the next record begins, so the record has that place, though each caller finds a place by its number.
+#[derive(Clone, Copy, PartialEq, Eq, Debug)]
 pub struct Record {
     pub initial: u8,
     pub last: u8,
@@ -24,5 +27,5 @@ pub fn read(file: &[u8], at: usize) -> Record
     requires { at + 18 ≤ length file.now }
     ensures { IsRecord file.now at result }
 {
-    reader::record(reader::open(file, at))
+    Reader::open(file, at).record()
 }

@@ -5,7 +5,7 @@ ghost use Rattle.records.specs.Records.{IsRecord};
 
 use crate::Record;
 
-#[derive(Clone, Copy)]
+#[derive(Clone, Copy, Debug)]
 pub struct Reader<'a> {
     pub file: &'a [u8],
     pub at: usize,
@@ -27,16 +27,18 @@ fn record_at(file: &[u8], at: usize) -> Record
     }
 }
 
-pub fn open<'a>(file: &'a [u8], at: usize) -> Reader<'a>
-    ensures { (result.file ≡ file.entry) × (result.at ≡ at) }
-{
-    Reader { file, at }
-}
+impl<'a> Reader<'a> {
+    pub fn open(file: &'a [u8], at: usize) -> Reader<'a>
+        ensures { (result.file ≡ file.entry) × (result.at ≡ at) }
+    {
+        Reader { file, at }
+    }
 
-// The record at the reader's place, and the next place.
-pub fn record<'a>(r: Reader<'a>) -> Record
-    requires { r.at + 18 ≤ length r.file.now }
-    ensures { IsRecord r.entry.file.now r.entry.at result }
-{
-    record_at(r.file, r.at)
+    // The record at the reader's place, and the next place.
+    pub fn record(self) -> Record
+        requires { self.at + 18 ≤ length self.file.now }
+        ensures { IsRecord self.entry.file.now self.entry.at result }
+    {
+        record_at(self.file, self.at)
+    }
 }

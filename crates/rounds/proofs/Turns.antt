@@ -7,11 +7,12 @@ use Prim.Native.Nat.{ℕ, zero, suc, ◌-◌, ◌*◌, ◌≤◌, ◌<◌}
 use native.Mathlib.Omega.{arith}
 use native.Mathlib.Nat.{mul-le-mul_right}
 use lib.ListN.{length}
+use Rattle.std.specs.Prelude.{None}
 use lib.IntN.{ℤ, pos}
 use lib.Signed.{◌≤ℤ◌}
 use Rattle.whole.proofs.Lin.{lin}
 use Rattle.loops.specs.Arrows.{Arrows, amount, tail}
-use Rattle.loops.specs.Model.{at, pred, round, row_after, preds_after, rooted, all_rooted, settled, worth, circle_arrows}
+use Rattle.loops.specs.Model.{at, pred, round, row_after, preds_after, rooted, all_rooted, stray, settled, worth, circle_arrows}
 use Rattle.loops.specs.Forest.{Deep}
 use Rattle.loops.proofs.Grounded.{deep_short}
 use Rattle.loops.proofs.Worth.{worth_next, worth_root, worth_most, tight_settled, settled_most}
@@ -22,12 +23,12 @@ use Rattle.loops.proofs.Relax.{circled_ends}
 use Rattle.loops.proofs.Rooted.{stray_above, stray_below_lem}
 use Rattle.loops.proofs.Begun.{root_kept}
 use Rattle.loops.specs.Shape.{Shape, Times}
-use Rattle.circles.specs.Circle.{ShowsCircle}
-use Rattle.settling.specs.Settling.{Fair, Settles}
+use Rattle.circles.specs.Circle.{Astray, ShowsCircle}
+use Rattle.settling.specs.Settling.{Fair, Settleable, Settles}
 use Rattle.rounds.specs.Turning.{turn}
-use Rattle.rounds.specs.Relaxation.{Bounded, Ready, ShowsLoop, Relaxed, Nears, Turned}
+use Rattle.rounds.specs.Relaxation.{Bounded, Ready, ShowsLoop, Rested, Circled, Nears}
 
-module _ (Γ : Arrows) (shape : Shape Γ) where
+module _ {Γ : Arrows} (shape : Shape Γ) where
   modest_to : (e : ℕ) → e < Γ.count → amount Γ e ≤ℤ pos 4194304
   modest_to e h = (shape.modest e h).to
 
@@ -36,8 +37,8 @@ module _ (Γ : Arrows) (shape : Shape Γ) where
   range d h = let f = shape.few in let l : d ≤ 256 = omega arith in omega (arith, mul-le-mul_right 4194304 l)
 
   -- A tight row is what its preds give, so at most its depth times the greatest amount.
-  pub ready_row : (a : List ℤ) (preds : List ℕ) → Ready Γ a preds → Times Γ.registers a
-  ready_row a preds r =
+  pub ready_row : {a : List ℤ} {preds : List ℕ} → Ready Γ a preds → Times Γ.registers a
+  ready_row {a} {preds} r =
       record {
         long = r.tight.row-length;
         in_row =
@@ -49,7 +50,7 @@ module _ (Γ : Arrows) (shape : Shape Γ) where
             record { from = from; to = omega lin };
       }
 
-  module _ (a : List ℤ) (preds : List ℕ) (r : Ready Γ a preds) where
+  module _ {a : List ℤ} {preds : List ℕ} (r : Ready Γ a preds) where
     -- By depth: a register without a pred is the host, which was not raised; deeper, what the round left at v is what its pred asks of the row
     -- that entered, which lies below what the round left at the tail, and so below what the preds give there.
     deep_from : (d v : ℕ) → v < Γ.registers → Deep Γ (preds_after Γ a preds) d v → at (row_after Γ a preds) v ≤ℤ worth Γ (preds_after Γ a preds) d v
@@ -87,15 +88,13 @@ module _ (Γ : Arrows) (shape : Shape Γ) where
     row_long = (tight_books Γ a preds shape.sound r.tight).row-length
 
     -- nothing was raised: the row and the preds are those that entered, and the row is the least schedule
-    turned_rested : (ring : List ℕ) → (round Γ a preds).raised ≡ false → Relaxed Γ (row_after Γ a preds) (preds_after Γ a preds) 0 ring ring
+    turned_rested : (ring : List ℕ) → (round Γ a preds).raised ≡ false → Rested Γ (row_after Γ a preds) (preds_after Γ a preds) ring ring
     turned_rested ring q =
         let same = round_quiet Γ a preds shape.sound r.tight q in
         record {
-          rested = λ e. record { long = row_long; least = rw same.row_same (rested_least Γ a preds shape.sound r.tight q) };
-          ready = λ e. rw (same.row_same, same.preds_same) r;
-          kept = λ e. refl;
-          circled = λ h. absurd (omega arith);
-          room = omega arith;
+          rests = record { long = row_long; least = rw same.row_same (rested_least Γ a preds shape.sound r.tight q) };
+          ready = rw (same.row_same, same.preds_same) r;
+          kept = refl;
         }
 
     -- the preds are a forest, and the row is settled
@@ -117,7 +116,7 @@ module _ (Γ : Arrows) (shape : Shape Γ) where
     turned_circled u b q = let e = circled_ends Γ a preds shape.sound r.tight u b q in record { contradicts = e.0; listed = e.1 }
 
     -- the same of the row, the preds and the flag that the code holds after its round
-    module _ (b : List ℤ) (q : List ℕ) (raised : Bool) (is : turn b q raised ≡ round Γ a preds) where
+    module _ {b : List ℤ} {q : List ℕ} {raised : Bool} (is : turn b q raised ≡ round Γ a preds) where
       row_is : b ≡ row_after Γ a preds
       row_is = ap (λ t. t.row) is
 
@@ -127,52 +126,29 @@ module _ (Γ : Arrows) (shape : Shape Γ) where
       flag_is : raised ≡ (round Γ a preds).raised
       flag_is = ap (λ t. t.raised) is
 
-      -- what settling is given
-      pub after_fair : Fair Γ q
-      after_fair = rw preds_is round_fair
+      -- what settling is given: a time for each register, and preds that leave all times in a row's range
+      pub after_settleable : Settleable Γ q b
+      after_settleable = record { row_long = rw row_is row_long; fair = rw preds_is round_fair }
 
-      -- a round leaves one pred for each register
-      pub after_preds_long : length q ≡ Γ.registers
-      after_preds_long = rw preds_is preds_long
+      -- nothing was raised
+      pub after_rested : {ring : List ℕ} → raised ≡ false → Rested Γ b q ring ring
+      after_rested {ring} h = rw (row_is, preds_is) (turned_rested ring (sym flag_is ∙ h))
 
-      -- and one time for each register
-      pub after_row_long : length b ≡ Γ.registers
-      after_row_long = rw row_is row_long
+      -- all registers are grounded: the row is settled, and the relaxation goes on
+      pub after_settled : {row : List ℤ} {ring : List ℕ} → Settles Γ q row None → Bounded Γ → raised ≡ true → Nears Γ a row q ring ring
+      after_settled {row} {ring} s w h =
+          let (_, all) = stray_above Γ q Γ.registers (sym s.0) (omega arith) in
+          rw (s.1, preds_is) (turned_settled ring w (sym flag_is ∙ h) (ap (all_rooted Γ) (sym preds_is) ∙ all))
 
-      -- nothing was raised: no entries
-      pub after_rested : (ring : List ℕ) → raised ≡ false → Turned Γ a b q ring ring 0
-      after_rested ring h =
-          record { over = λ e. rw (row_is, preds_is) (turned_rested ring (sym flag_is ∙ h)); on = λ e. absurd (omega arith) }
+      -- a register is not: the walk back from it does not end
+      module _ {t : ℕ} (s : (stray Γ q ≡ t) × (t < Γ.registers)) where
+        pub after_astray : Astray Γ q t
+        after_astray = record { below = s.1; stray = stray_below_lem Γ q t (sym s.0) s.1 }
 
-      -- what settling answered: n, or the first register that is not grounded
-      module _ (row : List ℤ) (t : ℕ) (s : Settles Γ q row t) where
-        -- n: the row is settled, and the relaxation goes on, which a number above n says
-        pub after_settled : (ring : List ℕ) (found : ℕ) → Bounded Γ → raised ≡ true → Γ.registers ≤ t → Γ.registers < found → Turned Γ a row q ring ring found
-        after_settled ring found w h e more =
-            let (whole, all) = stray_above Γ q t s.answer e in
+        -- and the circle that it ends on is listed
+        pub after_circled : {ring : List ℕ} → ShowsCircle Γ q t ring → Circled Γ ring
+        after_circled h =
             record {
-              over = λ g. absurd (omega arith);
-              on = λ g. rw (s.row_is whole, preds_is) (turned_settled ring w (sym flag_is ∙ h) (ap (all_rooted Γ) (sym preds_is) ∙ all));
-            }
-
-        -- where it is a register, the walk back from it does not end
-        pub after_unrooted : t < Γ.registers → rooted Γ q Γ.registers t ≡ false
-        after_unrooted = stray_below_lem Γ q t s.answer
-
-        -- a register: the circle that the walk back from it ends on is listed
-        pub after_circled : (entries : ℕ) (before ring : List ℕ) → t < Γ.registers → ShowsCircle Γ q t ring entries → Turned Γ a row q before ring entries
-        after_circled entries before ring below h =
-            let some = h.some in
-            let short = h.short in
-            record {
-              over =
-                  λ g.
-                  record {
-                    rested = λ e. absurd (omega arith);
-                    ready = λ e. absurd (omega arith);
-                    kept = λ e. absurd (omega arith);
-                    circled = λ z. rw (h.shows, preds_is) (turned_circled t below (ap (λ x. rooted Γ x Γ.registers t) (sym preds_is) ∙ after_unrooted below));
-                    room = short;
-                  };
-              on = λ g. absurd (omega arith);
+              shows = rw (h.shows, preds_is) (turned_circled t s.1 (ap (λ x. rooted Γ x Γ.registers t) (sym preds_is) ∙ after_astray.stray));
+              short = h.short;
             }

@@ -3,14 +3,13 @@ use Rattle.std.specs.Prelude.{◌≡◌, List, Bool, ℕ, ◌≤◌, ◌<◌, le
 use Rattle.loops.specs.Arrows.{Arrows}
 use Rattle.loops.specs.Begun.{MetBelow}
 use Rattle.loops.specs.Model.{Turn, at}
-use Rattle.loops.specs.Shape.{Shape, Times}
+use Rattle.loops.specs.Shape.{Times}
 
 abbrev pub turn : List ℤ → List ℕ → Bool → Turn
 turn row preds raised = record { row = row; preds = preds; raised = raised }
 
 -- arrow e may raise its head in row b by what row a offers
 pub record Liftable (Γ : Arrows) (a b : List ℤ) (preds : List ℕ) (e : ℕ) : Type 0 where
-  pub shape : Shape Γ
   pub exists : e < Γ.count
   pub times : Times Γ.registers a
   pub row_long : length b ≡ Γ.registers
@@ -18,7 +17,6 @@ pub record Liftable (Γ : Arrows) (a b : List ℤ) (preds : List ℕ) (e : ℕ) 
 
 -- a round may begin at arrow `from`: row a meets the arrows before, and row b and the preds have its length
 pub record Roundable (Γ : Arrows) (a b : List ℤ) (preds : List ℕ) (from : ℕ) : Type 0 where
-  pub shape : Shape Γ
   pub times : Times Γ.registers a
   pub row_long : length b ≡ Γ.registers
   pub preds_long : length preds ≡ Γ.registers

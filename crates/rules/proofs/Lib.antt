@@ -1,5 +1,4 @@
 -- Laws of the rules' sums. For callers: Ranges, that what was read of an accepted file is small, and Amounts, in which range an accepted
 -- network's amounts lie.
-pub mod Sums
 pub mod Ranges
 pub mod Amounts

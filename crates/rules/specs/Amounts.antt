@@ -6,7 +6,8 @@ use Rattle.network.specs.declared.Register.{Register}
 use Rattle.network.specs.declared.Path.{Path}
 use Rattle.network.specs.Records.{IsRegister, IsPath}
 use Rattle.paper.specs.Network.{Network}
-use Rattle.paper.specs.Rules.{Rule, base}
+use Rattle.paper.specs.declared.Rule.{Rule}
+use Rattle.paper.specs.Rules.{base}
 
 -- Nothing that a rule is made of lies further from 0 than 2 ^ 24, so sums of a few such numbers fit 32 bits.
 abbrev pub Small : ℤ → Type 0

@@ -5,7 +5,8 @@
 ghost use Rattle.std.specs.Prelude.{◌≡◌, ◌+ℤ◌, ◌-ℤ◌};
 ghost use Rattle.std.specs.Int.{w32};
 ghost use Rattle.std.proofs.Common.{SFits};
-ghost use Rattle.paper.specs.Rules.{Setup, Hold, Low, High, charge};
+ghost use Rattle.paper.specs.declared.Rule.TheVariants.{Setup, Hold, Low, High};
+ghost use Rattle.paper.specs.Rules.{charge};
 ghost use Rattle.rules.specs.Amounts.{SmallRegister, SmallEnds, SmallArrow, OfPath, OfRegister};
 
 use network::{Path, Register};
@@ -16,9 +17,7 @@ pub fn setup(road: Path, receiver: Register) -> Delay
     requires { SmallEnds road receiver }
     ensures { OfPath Setup road receiver result.0 }
 {
-    let travel = road.dmax;
-    let asked = travel.plus(receiver.setup);
-    asked.plus(road.uncertainty)
+    road.dmax.plus(receiver.setup).plus(road.uncertainty)
 }
 
 // c: a path from a register to itself is timed by one edge at one clock pin, which cannot be early and late at once.
@@ -37,9 +36,7 @@ pub fn hold(road: Path, receiver: Register) -> Delay
     requires { SmallEnds road receiver }
     ensures { OfPath Hold road receiver result.0 }
 {
-    let asked = receiver.hold;
-    let held = asked.plus(charged(road));
-    held.less(road.dmin)
+    receiver.hold.plus(charged(road)).less(road.dmin)
 }
 
 // low_i: from the host's instant to the earliest.
@@ -47,8 +44,7 @@ pub fn low(r: Register) -> Delay
     requires { SmallRegister r }
     ensures { OfRegister Low r result.0 }
 {
-    let earliest = r.low;
-    earliest.since(Latency(0))
+    r.low.since(Latency(0))
 }
 
 // -high_i: from the latest instant back to the host's.
@@ -56,9 +52,7 @@ pub fn high(r: Register) -> Delay
     requires { SmallRegister r }
     ensures { OfRegister High r result.0 }
 {
-    let latest = r.high;
-    let host = Latency(0);
-    host.since(latest)
+    Latency(0).since(r.high)
 }
 
 // A setup rule's amount at a period, from what it is without one.
@@ -74,8 +68,7 @@ pub fn at(base: i32, period: i32) -> i32
     requires { SFits w32 (base -ℤ period) }
     ensures { result ≡ base -ℤ period }
 {
-    let d = setup_at(Delay(base), Delay(period));
-    d.0
+    setup_at(Delay(base), Delay(period)).0
 }
 
 // RULES 2.3: "the latency at the arrow's head .. is at least the latency at its tail .. plus the amount": by how much.

@@ -2,15 +2,16 @@
 -- `Gives`, and on `Rooted` of `loops`.
 use mathlib.Core.Path.{◌≡◌, refl, ap}
 use mathlib.Core.List.{List}
-use Prim.Native.Nat.{ℕ, suc, ◌+◌, ◌*◌, ◌≤◌, ◌<◌}
+use Prim.Native.Nat.{ℕ, ◌+◌, ◌*◌, ◌≤◌, ◌<◌}
 use native.Mathlib.Omega.{arith}
 use native.Mathlib.Numerals.{add-one}
 use lib.IntN.{ℤ, pos, neg_ℤ, ◌+ℤ◌}
 use lib.Signed.{◌≤ℤ◌}
-use mir.Syntax.{w32, w64}
+use mir.Syntax.{w32}
 use mir.Val.{SFits}
 use Rattle.whole.proofs.Lin.{lin, plus, negs}
-use Rattle.loops.specs.Arrows.{Arrows, tail, amount}
+use Rattle.loops.specs.declared.Arrow.{Arrow}
+use Rattle.loops.specs.Arrows.{Arrows, arrow_at, tail, amount}
 use Rattle.loops.specs.Model.{pred, back}
 use Rattle.loops.specs.Forest.{Grounded, Arrowed}
 use Rattle.loops.proofs.Below.{below_next}
@@ -22,7 +23,6 @@ use Rattle.settling.proofs.Gives.{gives_is, gives_root, gives_next}
 -- v is k steps back from s over arrows, and the sum on the way lies within k of the greatest amounts
 pub record Walking (Γ : Arrows) (preds : List ℕ) (s v : ℕ) (sum : ℤ) (k : ℕ) : Type 0 where
   pub below : v < Γ.registers
-  pub so_far : k ≤ suc Γ.registers
   pub onward : (z : ℤ) → Gives Γ preds v z → Gives Γ preds s (z +ℤ sum)
   pub here : back Γ preds k s ≡ v
   pub arrows : Arrowed Γ preds k s
@@ -36,7 +36,6 @@ module _ (Γ : Arrows) (preds : List ℕ) (shape : Shape Γ) where
   walking_none s b =
       record {
         below = b;
-        so_far = omega arith;
         onward = λ z g. gives_is Γ preds (omega lin) g;
         here = refl;
         arrows = λ j h. absurd (omega arith);
@@ -54,7 +53,6 @@ module _ (Γ : Arrows) (preds : List ℕ) (shape : Shape Γ) where
       let to = w.sum_to in
       record {
         below = shape.sound.leaves (pred preds v) h;
-        so_far = omega arith;
         onward = λ z g. gives_is Γ preds (omega (lin, plus z (amount Γ (pred preds v)), plus sum (amount Γ (pred preds v)))) (w.onward _ (gives_next Γ preds v z h g));
         here = rw (add-one k) (ap (λ u. tail Γ (pred preds u)) w.here);
         arrows = rw (add-one k) (below_next (λ j. pred preds (back Γ preds j s) < Γ.count) k w.arrows (rw w.here h));
@@ -62,32 +60,22 @@ module _ (Γ : Arrows) (preds : List ℕ) (shape : Shape Γ) where
         sum_to = omega lin;
       }
 
-  -- a walk of more steps than there are registers shows that its start is not grounded
-  pub walking_long : (s v : ℕ) (sum : ℤ) (k : ℕ) → s < Γ.registers → Γ.registers < k → Walking Γ preds s v sum k → Grounded Γ preds s → ⊥
-  walking_long s v sum k b q w g = long_not_grounded Γ preds shape.sound s b (λ j h. w.arrows j (omega arith)) g
-
-  -- sums on the way fit 64 bits
-  sum_fits : (s v : ℕ) (sum : ℤ) (k : ℕ) → k ≤ Γ.registers → pred preds v < Γ.count → Walking Γ preds s v sum k → SFits w64 (sum +ℤ amount Γ (pred preds v))
-  sum_fits s v sum k q h w =
-      let m = shape.modest (pred preds v) h in
-      let few = shape.few in
-      let from = w.sum_from in
-      let to = w.sum_to in
-      omega (lin, plus sum (amount Γ (pred preds v)), negs (pos (k * 16777216)))
-
   -- where the register at which it stands has no pred, the sum is what the preds give s
-  pub walking_root : (s v : ℕ) (sum : ℤ) (k e : ℕ) → e ≡ pred preds v → Γ.count ≤ e → Walking Γ preds s v sum k → Gives Γ preds s sum
-  walking_root s v sum k e is root w = gives_is Γ preds (omega lin) (w.onward (pos 0) (gives_root Γ preds v (rw is at root)))
+  pub walking_root : (s v : ℕ) (sum : ℤ) (k : ℕ) → Γ.count ≤ pred preds v → Walking Γ preds s v sum k → Gives Γ preds s sum
+  walking_root s v sum k root w = gives_is Γ preds (omega lin) (w.onward (pos 0) (gives_root Γ preds v root))
 
   -- the pred as the code reads it: its amount can be added, and the walk goes on from its tail
-  module _ (s v : ℕ) (sum : ℤ) (k e : ℕ) (is : e ≡ pred preds v) (more : k ≤ Γ.registers) (arrow : e < Γ.count) (w : Walking Γ preds s v sum k) where
-    -- the amount can be added in 64 bits
-    pub read_fits : SFits w64 (sum +ℤ amount Γ e)
-    read_fits = rw is (sum_fits s v sum k more (rw is at arrow) w)
-
+  module _ (s v : ℕ) (sum : ℤ) (k : ℕ) (arrow : Arrow) (some : pred preds v < Γ.count) (is : arrow ≡ arrow_at Γ.list (pred preds v)) (more : k ≤ Γ.registers)
+      (w : Walking Γ preds s v sum k) where
     -- the walk is one step longer
-    pub walking_on : (t : ℕ) (x y : ℤ) → t ≡ tail Γ e → x ≡ y → y ≡ sum +ℤ amount Γ e → Walking Γ preds s t x (k + 1)
-    walking_on t x y at_tail held added = rw (at_tail, held, added, is) (walking_more s v sum k more (rw is at arrow) w)
+    pub walking_on : (t : ℕ) (x : ℤ) → t ≡ arrow.tail → x ≡ sum +ℤ arrow.amount → Walking Γ preds s t x (k + 1)
+    walking_on t x at_tail added = rw (at_tail, added, is) (walking_more s v sum k more some w)
+
+    -- where it has taken as many steps as there are registers, s is not grounded
+    pub walking_long : s < Γ.registers → Γ.registers ≤ k → Grounded Γ preds s → ⊥
+    walking_long b q g =
+        let on = walking_more s v sum k more some w in
+        long_not_grounded Γ preds shape.sound s b (λ j h. on.arrows j (omega arith)) g
 
 -- a time that a row can hold fits 32 bits
 pub row_fits : (z : ℤ) → InRow z → SFits w32 z

@@ -1,5 +1,6 @@
 -- Which reply a rule question has when, whatever its network N is and whatever rows t come before number 10 in its table. `QuestionLaws` says
 -- it of a file. Rests on the laws of tables and on the one law of refusals, by which there is one reply.
+use Rattle.std.specs.Prelude.{Ok, Err}
 use mathlib.Core.Path.{◌≡◌, refl, sym, ◌∙◌}
 use mathlib.Core.Logic.{◌↔◌, ◌⊎◌, inl, inr}
 use mathlib.Core.List.{List, ◌++◌}
@@ -9,18 +10,17 @@ use lib.IntN.{ℤ, pos, negsuc}
 use Rattle.whole.proofs.Lin.{lin, true_not_false}
 use Rattle.paper.specs.declared.Refusal.{Refusal}
 use Rattle.paper.specs.declared.Refusal.TheVariants as refusal
-use Rattle.paper.specs.declared.Reply.{Reply}
-use Rattle.paper.specs.declared.Reply.TheVariants as reply
 use Rattle.paper.specs.Network.{Network}
-use Rattle.paper.specs.Rules.{Rule, Holds, HoldsAs, tail, head}
+use Rattle.paper.specs.declared.Rule.{Rule}
+use Rattle.paper.specs.Rules.{Holds, HoldsAs, tail, head}
 use Rattle.paper.specs.File.{natural}
 use Rattle.paper.specs.Table.{Row, Given, Clear}
-use Rattle.paper.specs.Numbers.{refusal_number, refusal_place, reply_number, reply_place}
+use Rattle.paper.specs.Numbers.{Reply, refusal_number, refusal_place, reply_number, reply_place}
 use Rattle.paper.specs.Question.{Question, Asked, InRange, slack_asked, question_rows, Says, Answers, with_slack, Yes, No}
 use Rattle.paper.proofs.Legal.{passes}
 use Rattle.paper.proofs.RuleLaws.{written_is_rule}
 use Rattle.paper.proofs.TableLaws.{ByRow, OnePlaces, Numbered, by_row_given, given_append, given_before, given_after, given_row, given_clear, one_places_append, question_one_place}
-use Rattle.paper.proofs.NumberLaws.{refusal_apart, refusal_above, asked_one, reply_one}
+use Rattle.paper.proofs.NumberLaws.{refusal_apart, refusal_above, reply_one}
 use Rattle.paper.proofs.SlackLaws.{slack_yes, slack_no}
 use Rattle.skew.proofs.Calls.{given_rest}
 use Rattle.skew.proofs.Replies.{question_reply, slack_reply}
@@ -39,7 +39,7 @@ module _ (t : List Row) (places : OnePlaces t) {N : Network} {q : Question} {o :
   replied a = reply_one (one_places_append t rows places (question_one_place N q)) answers a
 
   -- a refusal other than 10 is given exactly when the rows that come before 10 give its number and place (RULES 6.3)
-  pub refused_iff : (x : Refusal) → (refusal_number x ≡ 10 → ⊥) → (o ≡ reply.Refused x) ↔ Given t (refusal_number x) (refusal_place x)
+  pub refused_iff : (x : Refusal) → (refusal_number x ≡ 10 → ⊥) → (o ≡ Err x) ↔ Given t (refusal_number x) (refusal_place x)
   refused_iff x other = ((λ e. found (rw e at parts)), from)
     where
       parts : ByRow t (reply_number o) (reply_place o) ⊎ (Clear t × Given rows (reply_number o) (reply_place o))
@@ -50,14 +50,14 @@ module _ (t : List Row) (places : OnePlaces t) {N : Network} {q : Question} {o :
       found (inr (c, inl g)) = absurd (other g.0)
       found (inr (c, inr g)) = absurd (refusal_apart x 0 (λ p. refl) (sym g.1.0))
 
-      from : Given t (refusal_number x) (refusal_place x) → o ≡ reply.Refused x
+      from : Given t (refusal_number x) (refusal_place x) → o ≡ Err x
       from g =
           let b = given_row t (refusal_number x) (refusal_place x) (refusal_above x) g in
           replied (record { given = given_before t rows (refusal_number x) (refusal_place x) b; says = tt })
 
   module _ (clear : Clear t) where
     -- 10 is given exactly when a number of the question lies outside its range, or the rule does not exist (RULES 8.3)
-    pub out_iff : (o ≡ reply.Refused refusal.Question) ↔ (InRange N q → ⊥)
+    pub out_iff : (o ≡ Err refusal.Question) ↔ (InRange N q → ⊥)
     out_iff = ((λ e. out (rw e at rest)), λ h. replied (question_reply N t q clear h))
       where
         rest : Given rows (reply_number o) (reply_place o)
@@ -69,7 +69,7 @@ module _ (t : List Row) (places : OnePlaces t) {N : Network} {q : Question} {o :
 
     -- RULES 15.1: "A rule question that is not refused answers .. the slack of the rule that is asked for."
     pub slack_is_told : InRange N q → (r : Rule) → Asked N q r → o ≡ with_slack (slack_asked N q r)
-    slack_is_told i r k = replied (slack_reply N t q clear i (record { 0 = slack_asked N q r }) (λ s l. rw (asked_one N q s r l k)))
+    slack_is_told i r k = replied (slack_reply N t q clear i (record { 0 = slack_asked N q r }) r k refl)
 
     module _ (in_range : InRange N q) (r : Rule) (asked-for : Asked N q r) where
       -- the reply that tells this slack is allowed
@@ -129,9 +129,9 @@ module _ (t : List Row) (places : OnePlaces t) {N : Network} {q : Question} {o :
     yes_or_no_iff = ((λ h. answered_iff.0 (told_by o h)), (λ h. either (answered_iff.1 h)))
       where
         told_by : (p : Reply) → Yes p ⊎ No p → (z : ℤ) × (p ≡ with_slack z)
-        told_by (reply.Slack d) h = (d.0, refl)
-        told_by (reply.Refused x) (inl y) = absurd y
-        told_by (reply.Refused x) (inr n) = absurd n
+        told_by (Ok d) h = (d.0, refl)
+        told_by (Err x) (inl y) = absurd y
+        told_by (Err x) (inr n) = absurd n
 
         either : (z : ℤ) × (o ≡ with_slack z) → Yes o ⊎ No o
         either (z, e) = rw e (yes_or_no z)
@@ -154,8 +154,8 @@ module _ (t : List Row) (places : OnePlaces t) {N : Network} {q q' : Question} (
 
   -- and the slack, of the same rule
   says_too : (o : Reply) → Says N q' o → Says N q o
-  says_too (reply.Slack d) (r, k, e) = let a = alike r k in (r, a.0, e ∙ sym a.1)
-  says_too (reply.Refused x) s = tt
+  says_too (Ok d) (r, k, e) = let a = alike r k in (r, a.0, e ∙ sym a.1)
+  says_too (Err x) s = tt
 
   pub same_reply : {o o' : Reply} → Answers N (t ++ question_rows N q) q o → Answers N (t ++ question_rows N q') q' o' → o ≡ o'
   same_reply {o' = o'} a b = replied t places a (record { given = given_too _ _ b.given; says = says_too o' b.says })

@@ -2,6 +2,7 @@
 -- exactly when a row of t gives it; and where none applies, number 7 exactly when there is too little room; with room enough, an answer
 -- exactly when there is one, number 8 exactly when no period has a schedule, number 9 exactly when some have and none up to the ceiling.
 -- `Numbers` and `Demands` say it of a file. Rests on the laws of tables and on the one law of refusals.
+use Rattle.std.specs.Prelude.{Ok, Err}
 use mathlib.Core.Path.{◌≡◌, refl, ap, sym}
 use mathlib.Core.Logic.{◌↔◌, ◌⊎◌, inl, inr}
 use mathlib.Core.List.{List, [], ◌∷◌, ◌++◌}
@@ -11,13 +12,12 @@ use lib.IntN.{ℤ}
 use lib.ListN.{length}
 use borrow.Author.Tests.{lt-leb, leb-false}
 use Rattle.paper.specs.declared.Refusal.{Refusal}
-use Rattle.paper.specs.declared.Outcome.{Outcome}
-use Rattle.paper.specs.declared.Outcome.TheVariants as outcome
+use Rattle.paper.specs.declared.Unanswered.TheVariants as unanswered
 use Rattle.paper.specs.Network.{Network}
 use Rattle.paper.specs.Schedule.{Answer}
 use Rattle.paper.specs.Table.{Row, Given, Clear}
 use Rattle.paper.specs.Refusals.{Scheduled, NoPeriod, NoneToCeiling, schedule_rows}
-use Rattle.paper.specs.Numbers.{refusal_number, refusal_place, outcome_number, outcome_place}
+use Rattle.paper.specs.Numbers.{Outcome, refusal_number, refusal_place, outcome_number, outcome_place}
 use Rattle.paper.specs.Outcome.{Result}
 use Rattle.paper.proofs.TableLaws.{ByRow, OnePlaces, given_one, given_append, given_before, given_row, by_row_given, one_places_append, schedule_one_place}
 use Rattle.paper.proofs.NumberLaws.{none, Refuses, refusal_in, refusal_apart, refusal_above, outcome_known}
@@ -61,30 +61,30 @@ module _ (t : List Row) {N : Network} {before after : List ℕ} {o : Outcome} (r
   rest_given c = given_rest t rows (outcome_number o) (outcome_place o) c r.given
 
   -- a refusal is given exactly when the rows that come before 7 give its number and place (RULES 6.3)
-  pub refused_iff : OnePlaces t → (x : Refusal) → (o ≡ outcome.Refused x) ↔ Given t (refusal_number x) (refusal_place x)
+  pub refused_iff : OnePlaces t → (x : Refusal) → (o ≡ Err (unanswered.Refused x)) ↔ Given t (refusal_number x) (refusal_place x)
   refused_iff places x = (to parted, from)
     where
-      to : ByFirst ⊎ (Clear t × ByRest) → o ≡ outcome.Refused x → Given t (refusal_number x) (refusal_place x)
+      to : ByFirst ⊎ (Clear t × ByRest) → o ≡ Err (unanswered.Refused x) → Given t (refusal_number x) (refusal_place x)
       to (inl b) e = rw e at (by_row_given t (outcome_number o) (outcome_place o) b)
       to (inr c) e = absurd (none_refused N (length before) x (refusal_place x) (rw e at c.1))
 
-      from : Given t (refusal_number x) (refusal_place x) → o ≡ outcome.Refused x
+      from : Given t (refusal_number x) (refusal_place x) → o ≡ Err (unanswered.Refused x)
       from g =
           let b = given_row t (refusal_number x) (refusal_place x) (refusal_above x) g in
           let h = given_before t rows (refusal_number x) (refusal_place x) b in
           let both = one_places_append t rows places (schedule_one_place N (length before)) in
           let one = given_one (t ++ rows) both _ _ _ _ r.given h in
-          outcome_known o (outcome.Refused x) one.0 one.1
+          outcome_known o (Err (unanswered.Refused x)) one.0 one.1
 
   -- RULES 6.4: "accepted when none of the refusals that stand before 7 applies": exactly when the outcome is none
-  pub clear_iff : Refuses t → Clear t ↔ ((x : Refusal) → o ≡ outcome.Refused x → ⊥)
+  pub clear_iff : Refuses t → Clear t ↔ ((x : Refusal) → o ≡ Err (unanswered.Refused x) → ⊥)
   clear_iff refuses = (to, λ h. from h parted)
     where
-      to : Clear t → (x : Refusal) → o ≡ outcome.Refused x → ⊥
+      to : Clear t → (x : Refusal) → o ≡ Err (unanswered.Refused x) → ⊥
       to c x e = none_refused N (length before) x (refusal_place x) (rw e at (rest_given c))
 
-      from : ((x : Refusal) → o ≡ outcome.Refused x → ⊥) → ByFirst ⊎ (Clear t × ByRest) → Clear t
-      from h (inl b) = let x = refuses (outcome_number o) (outcome_place o) b in absurd (h x.0 (outcome_known o (outcome.Refused x.0) x.1 x.2))
+      from : ((x : Refusal) → o ≡ Err (unanswered.Refused x) → ⊥) → ByFirst ⊎ (Clear t × ByRest) → Clear t
+      from h (inl b) = let x = refuses (outcome_number o) (outcome_place o) b in absurd (h x.0 (outcome_known o (Err (unanswered.Refused x.0)) x.1 x.2))
       from h (inr c) = c.0
 
   -- in particular where the outcome is no refusal that comes before 7
@@ -94,76 +94,76 @@ module _ (t : List Row) {N : Network} {before after : List ℕ} {o : Outcome} (r
 
   module _ (clear : Clear t) where
     -- 7 (RULES 6.2) is given exactly when there is room below 14 + 16n
-    pub room_iff : (o ≡ outcome.Room) ↔ (length before < 14 + 16 * N.registers)
+    pub room_iff : (o ≡ Err unanswered.Room) ↔ (length before < 14 + 16 * N.registers)
     room_iff = (to (rest_given clear), from (rest_given clear))
       where
-        to : ByRest → o ≡ outcome.Room → length before < 14 + 16 * N.registers
+        to : ByRest → o ≡ Err unanswered.Room → length before < 14 + 16 * N.registers
         to (inl g) e = leb-false _ _ g.1.0
         to (inr (s, inl g)) e = let n = rw e at g.0 in absurd (omega arith)
         to (inr (s, inr (t, inl g))) e = let n = rw e at g.0 in absurd (omega arith)
         to (inr (s, inr (t, inr (u, g)))) e = let n = rw e at g.0 in absurd (omega arith)
 
-        from : ByRest → length before < 14 + 16 * N.registers → o ≡ outcome.Room
-        from (inl g) h = outcome_known o outcome.Room g.0 g.1.1
+        from : ByRest → length before < 14 + 16 * N.registers → o ≡ Err unanswered.Room
+        from (inl g) h = outcome_known o (Err unanswered.Room) g.0 g.1.1
         from (inr g) h = absurd (g.0 0 (lt-leb _ _ h, refl))
 
     -- With room enough: no period has a schedule, or some have and none up to the ceiling, or neither.
     abbrev pub Parted : Type 0
     Parted =
-        ((o ≡ outcome.NoPeriod) × NoPeriod N)
-        ⊎ ((o ≡ outcome.NoneToCeiling) × NoneToCeiling N)
-        ⊎ (o ≡ outcome.Answered)
+        ((o ≡ Err unanswered.NoPeriod) × NoPeriod N)
+        ⊎ ((o ≡ Err unanswered.NoneToCeiling) × NoneToCeiling N)
+        ⊎ (o ≡ Ok tt)
 
     module _ (enough : 14 + 16 * N.registers ≤ length before) (floor : 1 ≤ N.floor) where
       roomy : ByRest → Parted
       roomy (inl g) = absurd (omega (arith, leb-false (14 + 16 * N.registers) (length before) g.1.0))
-      roomy (inr (s, inl g)) = inl (outcome_known o outcome.NoPeriod g.0 g.1.1, g.1.0)
-      roomy (inr (s, inr (t, inl g))) = inr (inl (outcome_known o outcome.NoneToCeiling g.0 g.1.1, g.1.0))
-      roomy (inr (s, inr (t, inr (u, g)))) = inr (inr (outcome_known o outcome.Answered g.0 g.1))
+      roomy (inr (s, inl g)) = inl (outcome_known o (Err unanswered.NoPeriod) g.0 g.1.1, g.1.0)
+      roomy (inr (s, inr (t, inl g))) = inr (inl (outcome_known o (Err unanswered.NoneToCeiling) g.0 g.1.1, g.1.0))
+      roomy (inr (s, inr (t, inr (u, g)))) = inr (inr (outcome_known o (Ok tt) g.0 g.1))
 
       -- where there is an answer, one is returned, for number 8 and number 9 deny it
-      answer_returned : (P : ℕ) (x : ℕ → ℤ) → Answer N P x → o ≡ outcome.Answered
+      answer_returned : (P : ℕ) (x : ℕ → ℤ) → Answer N P x → o ≡ Ok tt
       answer_returned P x h = go (roomy (rest_given clear))
         where
           from : 1 ≤ P
           from = omega (arith, h.from_floor)
 
-          go : Parted → o ≡ outcome.Answered
+          go : Parted → o ≡ Ok tt
           go (inl g) = absurd (g.1 P from (x, h.schedule))
           go (inr (inl g)) = absurd (g.1.none P from h.to_ceiling (x, h.schedule))
           go (inr (inr e)) = e
 
       -- 0 is given exactly when there is an answer (RULES 6.8)
-      pub answered_iff : (o ≡ outcome.Answered) ↔ ((P : ℕ) × (x : ℕ → ℤ) × Answer N P x)
+      pub answered_iff : (o ≡ Ok tt) ↔ ((P : ℕ) × (x : ℕ → ℤ) × Answer N P x)
       answered_iff = (given, λ w. answer_returned w.0 w.1 w.2)
         where
-          given : o ≡ outcome.Answered → (P : ℕ) × (x : ℕ → ℤ) × Answer N P x
+          given : o ≡ Ok tt → (P : ℕ) × (x : ℕ → ℤ) × Answer N P x
           given e =
-              let s : Result N (t ++ rows) before outcome.Answered after = rw e at r in
+              let s : Result N (t ++ rows) before (Ok tt) after = rw e at r in
               (s.output.period, s.output.latency, s.output.answer)
 
       -- unanswered exactly when no period from floor to ceiling has a schedule
-      pub unanswered_iff : (o ≡ outcome.Answered → ⊥) ↔ ((P : ℕ) → N.floor ≤ P → P ≤ N.ceiling → Scheduled N P → ⊥)
+      pub unanswered_iff : (o ≡ Ok tt → ⊥) ↔ ((P : ℕ) → N.floor ≤ P → P ≤ N.ceiling → Scheduled N P → ⊥)
       unanswered_iff = (
         (λ un P low high s. go un P low high s (roomy (rest_given clear))),
         (λ none e. let w = answered_iff.0 e in none w.0 w.2.from_floor w.2.to_ceiling (w.1, w.2.schedule)),
       )
         where
-          go : (o ≡ outcome.Answered → ⊥) → (P : ℕ) → N.floor ≤ P → P ≤ N.ceiling → Scheduled N P → Parted → ⊥
+          go : (o ≡ Ok tt → ⊥) → (P : ℕ) → N.floor ≤ P → P ≤ N.ceiling → Scheduled N P → Parted → ⊥
           go un P low high s (inl g) = g.1 P (omega arith) s
           go un P low high s (inr (inl g)) = g.1.none P (omega arith) high s
           go un P low high s (inr (inr e)) = un e
 
       -- 8 (RULES 6.2) is given exactly when there is no schedule at any whole period, however large
-      pub no_period_iff : (o ≡ outcome.NoPeriod) ↔ NoPeriod N
+      pub no_period_iff : (o ≡ Err unanswered.NoPeriod) ↔ NoPeriod N
       no_period_iff = (to (roomy (rest_given clear)), from (roomy (rest_given clear)))
         where
-          to : Parted → o ≡ outcome.NoPeriod → NoPeriod N
+          to : Parted → o ≡ Err unanswered.NoPeriod → NoPeriod N
           to (inl g) e = g.1
           to (inr (inl g)) e = let d = g.0 in let z : ◌≡◌ {A = ℕ} 0 1 = cc in absurd (omega arith)
           to (inr (inr d)) e = let z : ◌≡◌ {A = ℕ} 0 1 = cc in absurd (omega arith)
 
-          from : Parted → NoPeriod N → o ≡ outcome.NoPeriod
+          from : Parted → NoPeriod N → o ≡ Err unanswered.NoPeriod
           from (inl g) n = g.0
           from (inr (inl g)) n = let s = g.1.some in absurd (n s.0 s.1 s.2)
           from (inr (inr d)) n =
@@ -171,15 +171,15 @@ module _ (t : List Row) {N : Network} {before after : List ℕ} {o : Outcome} (r
               absurd (n w.0 (omega (arith, w.2.from_floor)) (w.1, w.2.schedule))
 
       -- 9 (RULES 6.2) is given exactly when there is a schedule at some period, but at none up to the ceiling
-      pub none_to_ceiling_iff : (o ≡ outcome.NoneToCeiling) ↔ NoneToCeiling N
+      pub none_to_ceiling_iff : (o ≡ Err unanswered.NoneToCeiling) ↔ NoneToCeiling N
       none_to_ceiling_iff = (to (roomy (rest_given clear)), from (roomy (rest_given clear)))
         where
-          to : Parted → o ≡ outcome.NoneToCeiling → NoneToCeiling N
+          to : Parted → o ≡ Err unanswered.NoneToCeiling → NoneToCeiling N
           to (inl g) e = let d = g.0 in let z : ◌≡◌ {A = ℕ} 0 1 = cc in absurd (omega arith)
           to (inr (inl g)) e = g.1
           to (inr (inr d)) e = let z : ◌≡◌ {A = ℕ} 0 1 = cc in absurd (omega arith)
 
-          from : Parted → NoneToCeiling N → o ≡ outcome.NoneToCeiling
+          from : Parted → NoneToCeiling N → o ≡ Err unanswered.NoneToCeiling
           from (inl g) n = let s = n.some in absurd (g.1 s.0 s.1 s.2)
           from (inr (inl g)) n = g.0
           from (inr (inr d)) n =
@@ -187,10 +187,10 @@ module _ (t : List Row) {N : Network} {before after : List ℕ} {o : Outcome} (r
               absurd (n.none w.0 (omega (arith, w.2.from_floor)) w.2.to_ceiling (w.1, w.2.schedule))
 
       -- and nothing else is returned
-      pub answered_or_refused : (o ≡ outcome.Answered) ⊎ (o ≡ outcome.NoPeriod) ⊎ (o ≡ outcome.NoneToCeiling)
+      pub answered_or_refused : (o ≡ Ok tt) ⊎ (o ≡ Err unanswered.NoPeriod) ⊎ (o ≡ Err unanswered.NoneToCeiling)
       answered_or_refused = go (roomy (rest_given clear))
         where
-          go : Parted → (o ≡ outcome.Answered) ⊎ (o ≡ outcome.NoPeriod) ⊎ (o ≡ outcome.NoneToCeiling)
+          go : Parted → (o ≡ Ok tt) ⊎ (o ≡ Err unanswered.NoPeriod) ⊎ (o ≡ Err unanswered.NoneToCeiling)
           go (inl g) = inr (inl g.0)
           go (inr (inl g)) = inr (inr g.0)
           go (inr (inr e)) = inl e

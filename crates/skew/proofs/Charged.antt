@@ -1,6 +1,7 @@
 -- What the mended hold rule changed in what the scheduler may return and leave, against u charged everywhere. The contract as it was is kept here, and
 -- for every accepted file with no self path, or with u 0, it is the contract; so it is for every accepted file that 8 did not apply to. Rests on `Demands`,
 -- and on `Charged` and `Unchanged` of `loops`, which have the rule as it was.
+use Rattle.std.specs.Prelude.{Ok, Err}
 use mathlib.Core.Path.{◌≡◌, ap, ◌∙◌}
 use mathlib.Core.Logic.{◌⊎◌, inl, inr, ◌↔◌}
 use mathlib.Core.List.{List, [], ◌∷◌, ◌++◌}
@@ -12,17 +13,16 @@ use lib.Dec.{leb}
 use lib.ListN.{length}
 use Rattle.whole.specs.Four.{word_at, signed_of, number_at, word_of, bytes_of, four}
 use Rattle.whole.proofs.Lin.{lin}
-use Rattle.paper.specs.declared.Outcome.{Outcome}
-use Rattle.paper.specs.declared.Reply.{Reply}
-use Rattle.paper.specs.declared.Outcome.TheVariants as outcome
+use Rattle.paper.specs.declared.Unanswered.TheVariants as unanswered
 use Rattle.paper.specs.Network.{Network}
 use Rattle.paper.specs.Limits.{room_for}
-use Rattle.paper.specs.Rules.{Rule, Hold}
+use Rattle.paper.specs.declared.Rule.{Rule}
+use Rattle.paper.specs.declared.Rule.TheVariants.{Hold}
 use Rattle.paper.specs.Schedule.{setups}
 use Rattle.paper.specs.File.{natural, network_of}
 use Rattle.paper.specs.Table.{Row, Fails, When, Given}
 use Rattle.paper.specs.Refusals.{Accepted, NoPeriod, NoneToCeiling, faults, schedule_rows}
-use Rattle.paper.specs.Numbers.{outcome_number, outcome_place}
+use Rattle.paper.specs.Numbers.{Outcome, Reply, outcome_number, outcome_place}
 use Rattle.paper.specs.Output.{AnswerOutput, LoopAlone}
 use Rattle.paper.specs.Outcome.{Left, FileResult}
 use Rattle.paper.specs.Question.{Question, Asked, InRange, FileAnswers, with_slack}
@@ -48,7 +48,7 @@ pub self_hold_refused : (f : List ℕ) {before after : List ℕ} {o : Outcome} �
     → FileResult f before o after
     → (p : ℕ) → p < (network_of f).paths → (network_of f).from p ≡ (network_of f).to p
     → (network_of f).dmin p <ℤ (network_of f).hold ((network_of f).to p)
-    → o ≡ outcome.NoPeriod
+    → o ≡ Err unanswered.NoPeriod
 self_hold_refused f a enough r p h self short =
     (refused_8_iff f a enough r).1 (λ P from s. let met = (self_hold_iff (network_of f) P s.0 p self).0 (s.1.meets (Hold p) h) in omega lin)
 
@@ -65,12 +65,12 @@ pub record AnsweredEverywhere (N : Network) (before after : List ℕ) : Type 0 w
 
 -- what stood in the output, as `Left` has it
 abbrev pub LeftEverywhere : Network → Outcome → List ℕ → List ℕ → Type 0
-LeftEverywhere N outcome.Answered before after = AnsweredEverywhere N before after
-LeftEverywhere N (outcome.Refused x) before after = after ≡ before
-LeftEverywhere N outcome.Room before after = after ≡ before
-LeftEverywhere N outcome.NoPeriod before after =
+LeftEverywhere N (Ok tt) before after = AnsweredEverywhere N before after
+LeftEverywhere N (Err (unanswered.Refused x)) before after = after ≡ before
+LeftEverywhere N (Err unanswered.Room) before after = after ≡ before
+LeftEverywhere N (Err unanswered.NoPeriod) before after =
     (l : List Rule) × (setups l ≡ 0) × ((P : ℕ) → family.Refutes (everywhere N) P l) × LoopAlone l before after
-LeftEverywhere N outcome.NoneToCeiling before after =
+LeftEverywhere N (Err unanswered.NoneToCeiling) before after =
     (l : List Rule) × family.Refutes (everywhere N) N.ceiling l × LoopAlone l before after
 
 -- the rows of 7, 8 and 9, the latter two when A and B hold; `schedule_rows` has the paper's own
@@ -102,7 +102,7 @@ rows_alike N room a b n p (inr (s, inr (t, inr (u, none)))) =
 
 module _ (N : Network) (legal : Legal N) (same : Unchanged N) (before after : List ℕ) where
   left_as_it_was : (o : Outcome) → Left N o before after → LeftEverywhere N o before after
-  left_as_it_was outcome.Answered l =
+  left_as_it_was (Ok tt) l =
       record {
         period = l.period;
         latency = l.latency;
@@ -111,13 +111,13 @@ module _ (N : Network) (legal : Legal N) (same : Unchanged N) (before after : Li
         shown = (same_shown N legal same l.period l.loop).1 l.shown;
         bytes = l.bytes;
       }
-  left_as_it_was (outcome.Refused x) l = l
-  left_as_it_was outcome.Room l = l
-  left_as_it_was outcome.NoPeriod l = (l.loop, l.no_setups, (λ P. (same_refutes N legal same P l.loop).1 (l.refutes P)), l.bytes)
-  left_as_it_was outcome.NoneToCeiling l = (l.loop, (same_refutes N legal same N.ceiling l.loop).1 l.refutes, l.bytes)
+  left_as_it_was (Err (unanswered.Refused x)) l = l
+  left_as_it_was (Err unanswered.Room) l = l
+  left_as_it_was (Err unanswered.NoPeriod) l = (l.loop, l.no_setups, (λ P. (same_refutes N legal same P l.loop).1 (l.refutes P)), l.bytes)
+  left_as_it_was (Err unanswered.NoneToCeiling) l = (l.loop, (same_refutes N legal same N.ceiling l.loop).1 l.refutes, l.bytes)
 
   left_as_it_is : (o : Outcome) → LeftEverywhere N o before after → Left N o before after
-  left_as_it_is outcome.Answered l =
+  left_as_it_is (Ok tt) l =
       record {
         period = l.period;
         latency = l.latency;
@@ -126,10 +126,10 @@ module _ (N : Network) (legal : Legal N) (same : Unchanged N) (before after : Li
         shown = (same_shown N legal same l.period l.loop).0 l.shown;
         bytes = l.bytes;
       }
-  left_as_it_is (outcome.Refused x) l = l
-  left_as_it_is outcome.Room l = l
-  left_as_it_is outcome.NoPeriod l = record { loop = l.0; no_setups = l.1; refutes = λ P. (same_refutes N legal same P l.0).0 (l.2 P); bytes = l.3 }
-  left_as_it_is outcome.NoneToCeiling l = record { loop = l.0; refutes = (same_refutes N legal same N.ceiling l.0).0 l.1; bytes = l.2 }
+  left_as_it_is (Err (unanswered.Refused x)) l = l
+  left_as_it_is (Err unanswered.Room) l = l
+  left_as_it_is (Err unanswered.NoPeriod) l = record { loop = l.0; no_setups = l.1; refutes = λ P. (same_refutes N legal same P l.0).0 (l.2 P); bytes = l.3 }
+  left_as_it_is (Err unanswered.NoneToCeiling) l = record { loop = l.0; refutes = (same_refutes N legal same N.ceiling l.0).0 l.1; bytes = l.2 }
 
 -- RULES 16.8: "Where a network has no self path, or u is 0". u is the header's number at byte 18 (RULES 5.6).
 abbrev pub NoSelfPathOrNoU : List ℕ → Type 0
@@ -183,7 +183,7 @@ module _ (f : List ℕ) (a : Accepted f) {before after : List ℕ} {o : Outcome}
   result_unless_8 not-8 = result_as_it_was (unchanged_unless_8 (network_of f) not-8)
 
 -- RULES 16.9: "What is answered then is answered now, with the same period and latencies; so no period becomes longer."
-module _ (f : List ℕ) (a : Accepted f) {before after' : List ℕ} (was : FileResultEverywhere f before outcome.Answered after') where
+module _ (f : List ℕ) (a : Accepted f) {before after' : List ℕ} (was : FileResultEverywhere f before (Ok tt) after') where
   unchanged : Unchanged (network_of f)
   unchanged =
       let l = was.output in
@@ -191,17 +191,17 @@ module _ (f : List ℕ) (a : Accepted f) {before after' : List ℕ} (was : FileR
       let from = l.answer.from_floor in
       unchanged_if_scheduled (network_of f) l.period (omega arith) (l.latency, l.answer.schedule)
 
-  pub answered_still : {after : List ℕ} {o : Outcome} → FileResult f before o after → o ≡ outcome.Answered
+  pub answered_still : {after : List ℕ} {o : Outcome} → FileResult f before o after → o ≡ Ok tt
   answered_still r = outcome_one (refusals_one_place f (length before)) r ((result_as_it_was f a unchanged).1 was)
 
-  pub answer_still : {after : List ℕ} (r : FileResult f before outcome.Answered after)
+  pub answer_still : {after : List ℕ} (r : FileResult f before (Ok tt) after)
       → (r.output.period ≡ was.output.period)
       × ((i : ℕ) → i < (network_of f).registers → r.output.latency i ≡ was.output.latency i)
   answer_still r =
       let l = was.output in
       answer_unique r.output.answer ((same_answer (network_of f) (accepted_legal f a) unchanged l.period l.latency).0 l.answer)
 
-  pub period_never_rises : {after : List ℕ} (r : FileResult f before outcome.Answered after) → r.output.period ≤ was.output.period
+  pub period_never_rises : {after : List ℕ} (r : FileResult f before (Ok tt) after) → r.output.period ≤ was.output.period
   period_never_rises r = let same = (answer_still r).0 in omega arith
 
 -- ---- the rule question

@@ -1,6 +1,7 @@
 -- What the returned values promise an accepted file: the answer is the paper's, a file goes unanswered exactly when there is none, the
 -- period is the greatest need, and the loop that is shown proves it. Each theorem speaks of a result, that is of what the scheduler returns
 -- and leaves. Rests on `Calls` and on the theorems on schedules and loops, of which the two named last are handed on.
+use Rattle.std.specs.Prelude.{Ok, Err}
 use mathlib.Core.Path.{◌≡◌, refl}
 use mathlib.Core.Logic.{◌↔◌, ◌⊎◌}
 use mathlib.Core.List.{List, [], ◌∷◌, ◌++◌}
@@ -11,10 +12,11 @@ use lib.IntN.{ℤ}
 use lib.ListN.{length}
 use Rattle.whole.proofs.Lin.{lin}
 use Rattle.whole.proofs.Sums.{total_mono}
-use Rattle.paper.specs.declared.Outcome.{Outcome}
-use Rattle.paper.specs.declared.Outcome.TheVariants as outcome
+use Rattle.paper.specs.Numbers.{Outcome}
+use Rattle.paper.specs.declared.Unanswered.TheVariants as unanswered
 use Rattle.paper.specs.Network.{Network}
-use Rattle.paper.specs.Rules.{Rule, amount}
+use Rattle.paper.specs.declared.Rule.{Rule}
+use Rattle.paper.specs.Rules.{amount}
 use Rattle.paper.specs.Schedule.{Answer, Refutes, Shown, setups}
 use Rattle.paper.specs.File.{network_of}
 use Rattle.paper.specs.Table.{Row}
@@ -41,35 +43,35 @@ pub use Rattle.loops.proofs.Theorems.{period_is_greatest_need}
 -- setup, hold and window rule."
 -- RULES 10.5: "At that period each register gets the smallest latency that it has in any such schedule." Of any network and any table of
 -- numbers.
-pub returned_answer : {N : Network} {rows : List Row} {before after : List ℕ} (r : Result N rows before outcome.Answered after)
+pub returned_answer : {N : Network} {rows : List Row} {before after : List ℕ} (r : Result N rows before (Ok tt) after)
     → Answer N r.output.period r.output.latency
 returned_answer r = r.output.answer
 
 module _ (f : List ℕ) {before after : List ℕ} {o : Outcome} (a : Accepted f) (enough : 14 + 16 * (network_of f).registers ≤ length before) (r : FileResult f before o after) where
   -- 0 (RULES 6.8): an accepted file with room enough is answered exactly when there is an answer.
-  pub answered_iff : (o ≡ outcome.Answered) ↔ ((P : ℕ) × (x : ℕ → ℤ) × Answer (network_of f) P x)
+  pub answered_iff : (o ≡ Ok tt) ↔ ((P : ℕ) × (x : ℕ → ℤ) × Answer (network_of f) P x)
   answered_iff = calls.answered_iff (faults f) r a enough (accepted_legal f a).floor_from
 
   -- RULES 10.6: "An accepted file with room enough goes without an answer exactly when no such period exists."
-  pub unanswered_iff : (o ≡ outcome.Answered → ⊥) ↔ ((P : ℕ) → (network_of f).floor ≤ P → P ≤ (network_of f).ceiling → Scheduled (network_of f) P → ⊥)
+  pub unanswered_iff : (o ≡ Ok tt → ⊥) ↔ ((P : ℕ) → (network_of f).floor ≤ P → P ≤ (network_of f).ceiling → Scheduled (network_of f) P → ⊥)
   unanswered_iff = calls.unanswered_iff (faults f) r a enough (accepted_legal f a).floor_from
 
   -- 8 (RULES 6.2) is given exactly when there is no schedule at any whole period, however large
-  pub refused_8_iff : (o ≡ outcome.NoPeriod) ↔ NoPeriod (network_of f)
+  pub refused_8_iff : (o ≡ Err unanswered.NoPeriod) ↔ NoPeriod (network_of f)
   refused_8_iff = calls.no_period_iff (faults f) r a enough (accepted_legal f a).floor_from
 
   -- 9 (RULES 6.2) is given exactly when there is a schedule at some period, but at none up to the ceiling
-  pub refused_9_iff : (o ≡ outcome.NoneToCeiling) ↔ NoneToCeiling (network_of f)
+  pub refused_9_iff : (o ≡ Err unanswered.NoneToCeiling) ↔ NoneToCeiling (network_of f)
   refused_9_iff = calls.none_to_ceiling_iff (faults f) r a enough (accepted_legal f a).floor_from
 
   -- and nothing else is returned
-  pub answered_or_refused : (o ≡ outcome.Answered) ⊎ (o ≡ outcome.NoPeriod) ⊎ (o ≡ outcome.NoneToCeiling)
+  pub answered_or_refused : (o ≡ Ok tt) ⊎ (o ≡ Err unanswered.NoPeriod) ⊎ (o ≡ Err unanswered.NoneToCeiling)
   answered_or_refused = calls.answered_or_refused (faults f) r a enough (accepted_legal f a).floor_from
 
 -- ---- its period, and the loop that is shown
 
 -- So RULES 10.9: "The returned period is the larger of the floor and the greatest need."
-pub returned_period : (f : List ℕ) {before after : List ℕ} (r : FileResult f before outcome.Answered after)
+pub returned_period : (f : List ℕ) {before after : List ℕ} (r : FileResult f before (Ok tt) after)
     → GreatestNeed (network_of f) r.output.period
 returned_period f r =
     let a = accepted_beyond f r refl in
@@ -123,12 +125,12 @@ module _ (N : Network) where
 -- Whatever the network, and whatever refusals its table has before 7: the loop that is shown proves it.
 pub loop_shown : (t : List Row) → Refuses t → (N : Network) {before after : List ℕ} (o : Outcome)
     (r : Result N (t ++ schedule_rows N (length before)) before o after) → LoopProves N before o after r.output
-loop_shown t k N outcome.Answered r =
+loop_shown t k N (Ok tt) r =
     shown_least N r.output.period r.output.latency r.output.loop r.output.answer r.output.shown
-loop_shown t k N (outcome.Refused x) r = tt
-loop_shown t k N outcome.Room r = tt
-loop_shown t k N outcome.NoPeriod r = shown_none N r.output.loop r.output.no_setups r.output.refutes
-loop_shown t k N {before} outcome.NoneToCeiling r =
+loop_shown t k N (Err (unanswered.Refused x)) r = tt
+loop_shown t k N (Err unanswered.Room) r = tt
+loop_shown t k N (Err unanswered.NoPeriod) r = shown_none N r.output.loop r.output.no_setups r.output.refutes
+loop_shown t k N {before} (Err unanswered.NoneToCeiling) r =
     let clear = calls.clear_beyond t r k refl in
     shown_none_to_ceiling N r.output.loop (calls.given_9 N (length before) 0 (calls.rest_given t r clear)) r.output.refutes
 

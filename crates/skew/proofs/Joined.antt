@@ -1,5 +1,6 @@
 -- The two public functions agree: of the answer that the scheduler returns, the rule question says yes to every rule, and tells by how much.
 -- And latencies are a schedule exactly when it says yes. Rests on the laws of rules, by which a rule is met exactly when its inequality holds.
+use Rattle.std.specs.Prelude.{Ok, Err}
 use mathlib.Core.Path.{◌≡◌, refl, ap}
 use mathlib.Core.Logic.{◌↔◌}
 use mathlib.Core.List.{List, ◌++◌}
@@ -7,11 +8,11 @@ use Prim.Native.Nat.{ℕ, zero, suc, ◌≤◌}
 use native.Mathlib.Omega.{arith}
 use lib.IntN.{ℤ, pos}
 use Rattle.whole.proofs.Lin.{lin}
-use Rattle.paper.specs.declared.Outcome.TheVariants as outcome
-use Rattle.paper.specs.declared.Reply.{Reply}
-use Rattle.paper.specs.declared.Reply.TheVariants as reply
+use Rattle.paper.specs.Numbers.{Reply}
 use Rattle.paper.specs.Network.{Network}
-use Rattle.paper.specs.Rules.{Rule, Low, High, Exists, ◌≥ℤ◌, tail, head, slack_by}
+use Rattle.paper.specs.declared.Rule.{Rule}
+use Rattle.paper.specs.declared.Rule.TheVariants.{Low, High}
+use Rattle.paper.specs.Rules.{Exists, ◌≥ℤ◌, tail, head, slack_by}
 use Rattle.paper.specs.Schedule.{Schedule, Answer}
 use Rattle.paper.specs.File.{network_of}
 use Rattle.paper.specs.Table.{Row, Clear}
@@ -21,7 +22,7 @@ use Rattle.paper.specs.Outcome.{FileResult}
 use Rattle.paper.proofs.Legal.{Legal, is_within, accepted_legal}
 use Rattle.paper.proofs.RuleLaws.{met_is_rule}
 use Rattle.paper.proofs.TableLaws.{OnePlaces, one_places_append, question_one_place, faults_one_place}
-use Rattle.paper.proofs.NumberLaws.{asked_one, reply_one}
+use Rattle.paper.proofs.NumberLaws.{reply_one}
 use Rattle.loops.proofs.Places.{tail_below, head_below, legal_joined}
 use Rattle.skew.specs.Asks.{question_of, LatenciesInRange, TellsSlack, SaysYes, FileTellsSlack, FileSaysYes}
 use Rattle.skew.proofs.Numbers.{accepted_beyond}
@@ -63,7 +64,7 @@ module _ (N : Network) (t : List Row) (clear : Clear t) (places : OnePlaces t) (
 
   tells_slack : TellsSlack N rows q (slack_asked N q r)
   tells_slack =
-      let told = slack_reply N t q clear i (record { 0 = slack_asked N q r }) (λ s k. rw (asked_one N q s r k a)) in
+      let told = slack_reply N t q clear i (record { 0 = slack_asked N q r }) r a refl in
       record { in_range = i; allowed = told; only = λ o h. reply_one one_places h told }
 
   -- so it says yes exactly when that is at least 0
@@ -77,8 +78,8 @@ module _ (N : Network) (t : List Row) (clear : Clear t) (places : OnePlaces t) (
       rw same y.met
     where
       told_in : Reply → ℤ
-      told_in (reply.Slack d) = d.0
-      told_in (reply.Refused x) = pos 0
+      told_in (Ok d) = d.0
+      told_in (Err x) = pos 0
 
 -- RULES 8.5: "the answer is yes exactly when the inequality of the rule holds": latencies in range, with 0 for the host, are a schedule
 -- exactly when the rule question says yes to every rule.
@@ -127,7 +128,7 @@ module _ (f : List ℕ) (a : Accepted f) (P : ℕ) (x : ℕ → ℤ) (h : Answer
 
 -- RULES 10.7: "The two calls agree: for an answered file the rule question says yes to every rule of the network, at the period and the
 -- latencies that were returned."
-module _ (f : List ℕ) {before after : List ℕ} (s : FileResult f before outcome.Answered after) where
+module _ (f : List ℕ) {before after : List ℕ} (s : FileResult f before (Ok tt) after) where
   pub returned_question : (r : Rule) → Exists (network_of f) r → FileSaysYes f (question_of (network_of f) s.output.period s.output.latency r)
   returned_question = answered_question f (accepted_beyond f s refl) s.output.period s.output.latency (returned_answer s)
 

@@ -3,7 +3,6 @@
 -- Asking say of any network and any refusals before 7 what Numbers, Demands and QuestionLaws say of a file. The others serve the proofs of
 -- the functions' parts.
 pub mod Limits
-pub mod Named
 pub mod Replies
 pub mod Unique
 pub mod Calls

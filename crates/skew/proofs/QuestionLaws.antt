@@ -1,5 +1,6 @@
 -- What the contract of the rule question says of a file: when each number is given, that the slack which is told is the named rule's, and that
 -- it is yes exactly when the rule's inequality holds. Each is what `Asking` says of the file's network and of the rows of its faults. Rests on `Asking`.
+use Rattle.std.specs.Prelude.{Err}
 use mathlib.Core.Path.{◌≡◌, refl, sym, ◌∙◌}
 use mathlib.Core.Logic.{◌↔◌, ◌⊎◌}
 use mathlib.Core.List.{List}
@@ -7,13 +8,13 @@ use Prim.Native.Nat.{ℕ, ◌<◌}
 use native.Mathlib.Omega.{arith}
 use lib.IntN.{ℤ, pos, ◌+ℤ◌, ◌-ℤ◌}
 use Rattle.whole.proofs.Lin.{lin}
+use Rattle.paper.specs.Numbers.{Reply}
 use Rattle.paper.specs.declared.Fault.{Fault}
-use Rattle.paper.specs.declared.Verdict.TheVariants as verdict
 use Rattle.paper.specs.declared.Refusal.TheVariants as refusal
-use Rattle.paper.specs.declared.Reply.{Reply}
-use Rattle.paper.specs.declared.Reply.TheVariants as reply
 use Rattle.paper.specs.Network.{Network}
-use Rattle.paper.specs.Rules.{Rule, Setup, Hold, Low, High, kind, Holds, HoldsAs, tail, head}
+use Rattle.paper.specs.declared.Rule.{Rule}
+use Rattle.paper.specs.declared.Rule.TheVariants.{Setup, Hold, Low, High}
+use Rattle.paper.specs.Rules.{kind, Holds, HoldsAs, tail, head}
 use Rattle.paper.specs.File.{natural, network_of}
 use Rattle.paper.specs.Refusals.{faults, Accepted}
 use Rattle.paper.specs.Question.{Question, asked, Asked, InRange, slack_asked, FileAnswers, with_slack, Yes, No}
@@ -47,11 +48,11 @@ module _ (f : List ℕ) (q : Question) (r : Rule) (o : Reply) (accepted : Accept
 
 module _ (f : List ℕ) {q : Question} {o : Reply} (answers : FileAnswers f q o) where
   -- 1 to 6 (RULES 8.2): the reply is a fault of the file exactly when a look at the file finds that fault
-  pub question_fault_iff : (x : Fault) → (o ≡ reply.Refused (refusal.File x)) ↔ Judged f (verdict.Faulty x)
+  pub question_fault_iff : (x : Fault) → (o ≡ Err (refusal.File x)) ↔ Judged f (Err x)
   question_fault_iff x = asking.refused_iff (faults f) (faults_one_place f) answers (refusal.File x) (λ e. omega (arith, (fault_numbers x).1))
 
   -- 10 is given exactly when a number of an accepted file's question lies outside its range, or the rule does not exist (RULES 8.3)
-  pub refused_10_iff : Accepted f → (o ≡ reply.Refused refusal.Question) ↔ (InRange (network_of f) q → ⊥)
+  pub refused_10_iff : Accepted f → (o ≡ Err refusal.Question) ↔ (InRange (network_of f) q → ⊥)
   refused_10_iff = asking.out_iff (faults f) (faults_one_place f) answers
 
   -- a slack is told exactly when no refusal applies: of an accepted file's question in range, and of no other

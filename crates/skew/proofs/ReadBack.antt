@@ -1,5 +1,6 @@
 -- The answer is read back from the bytes: the period, the number of latencies, and each register's latency stand in the output where the
 -- paper puts them, as numbers of four bytes. Rests on the laws of four-byte numbers.
+use Rattle.std.specs.Prelude.{Ok, Err}
 use mathlib.Core.Path.{◌≡◌, refl, sym, ap, ◌∙◌}
 use mathlib.Core.List.{List, [], ◌∷◌, ◌++◌, append_assoc, append-nil}
 use Prim.Native.Nat.{ℕ, zero, suc, ◌+◌, ◌*◌, ◌≤◌, ◌<◌}
@@ -13,10 +14,12 @@ use mir.Syntax.{w32}
 use mir.Val.{SFits}
 use Rattle.whole.specs.Four.{number_at, four}
 use Rattle.whole.proofs.Four.{number_past, number_first, four-length}
+use Rattle.paper.specs.Numbers.{Outcome}
 use Rattle.paper.specs.Network.{Network}
-use Rattle.paper.specs.Rules.{Rule, Setup, Hold, Low, High, Exists, kind, number, tail, head}
-use Rattle.paper.specs.declared.Outcome.{Outcome}
-use Rattle.paper.specs.declared.Outcome.TheVariants as outcome
+use Rattle.paper.specs.declared.Rule.{Rule}
+use Rattle.paper.specs.declared.Rule.TheVariants.{Setup, Hold, Low, High}
+use Rattle.paper.specs.Rules.{Exists, kind, number, tail, head}
+use Rattle.paper.specs.declared.Unanswered.TheVariants as unanswered
 use Rattle.paper.specs.Schedule.{Answer, IsLoop, Shown}
 use Rattle.paper.specs.File.{network_of}
 use Rattle.paper.specs.Outcome.{FileResult}
@@ -196,15 +199,15 @@ module _ (N : Network) (g : Legal N) where
 
 -- Whatever is returned, each number of the answer and of the loop is read in the output at its place.
 pub read_back : (f : List ℕ) {before after : List ℕ} (o : Outcome) (r : FileResult f before o after) → ReadsBack (network_of f) before o after r.output
-read_back f {before} {after} outcome.Answered r =
+read_back f {before} {after} (Ok tt) r =
     let N : Network = network_of f in
     let g = accepted_legal f (accepted_beyond f r refl) in
     reads r.output.period N.registers r.output.latency r.output.loop after _ (answer_small N g _ _ _ r.output.answer r.output.shown) r.output.bytes
-read_back f (outcome.Refused x) r = tt
-read_back f outcome.Room r = tt
-read_back f {before} {after} outcome.NoPeriod r =
+read_back f (Err (unanswered.Refused x)) r = tt
+read_back f (Err unanswered.Room) r = tt
+read_back f {before} {after} (Err unanswered.NoPeriod) r =
     let g = accepted_legal f (accepted_beyond f r refl) in
     reads_alone r.output.loop before after (alone_small (network_of f) g r.output.loop (r.output.refutes 0).is_loop) r.output.bytes
-read_back f {before} {after} outcome.NoneToCeiling r =
+read_back f {before} {after} (Err unanswered.NoneToCeiling) r =
     let g = accepted_legal f (accepted_beyond f r refl) in
     reads_alone r.output.loop before after (alone_small (network_of f) g r.output.loop r.output.refutes.is_loop) r.output.bytes

@@ -1,5 +1,6 @@
 -- How large a slack can be, and what the slacks of the loop that is shown add up to. Rests on the ranges of an accepted file's network, and on
 -- `SlackLaws` of `paper`.
+use Rattle.std.specs.Prelude.{Ok}
 use mathlib.Core.Path.{◌≡◌, refl}
 use mathlib.Core.Logic.{◌↔◌}
 use mathlib.Core.List.{List, [], ◌∷◌, map}
@@ -9,10 +10,10 @@ use lib.IntN.{ℤ, pos, ◌+ℤ◌, ◌-ℤ◌}
 use Rattle.whole.specs.Between.{Between}
 use Rattle.whole.proofs.Lin.{lin, negs}
 use Rattle.paper.specs.declared.Delay.{Delay}
-use Rattle.paper.specs.declared.Outcome.TheVariants as outcome
-use Rattle.paper.specs.declared.Reply.TheVariants as reply
 use Rattle.paper.specs.Network.{Network}
-use Rattle.paper.specs.Rules.{Rule, Setup, Hold, Low, High, kind, number, Exists, slack}
+use Rattle.paper.specs.declared.Rule.{Rule}
+use Rattle.paper.specs.declared.Rule.TheVariants.{Setup, Hold, Low, High}
+use Rattle.paper.specs.Rules.{kind, number, Exists, slack}
 use Rattle.paper.specs.Schedule.{Schedule, IsLoop, Contradicts, Answer, Shown}
 use Rattle.paper.specs.Limits.{least_latency, most_latency, most_delay, Period}
 use Rattle.paper.specs.File.{natural, network_of}
@@ -67,7 +68,7 @@ slack_within f a {q} i r k =
     (within_is _ _ _ i.tail_within) (within_is _ _ _ i.head_within) r k.exists
 
 -- of what is told: there is one rule that it can be told of
-pub told_within : (f : List ℕ) {q : Question} (d : Delay) → FileAnswers f q (reply.Slack d)
+pub told_within : (f : List ℕ) {q : Question} (d : Delay) → FileAnswers f q (Ok d)
     → (r : Rule) × Asked (network_of f) q r × Between (least_slack r) (most_slack r) d.0
 told_within f d a =
     let h = (question_answered_iff f a).0 (d.0, refl) in
@@ -109,7 +110,7 @@ shown_leaves N P x (r ∷ l) a s h = (no_room_iff N P x (omega arith) a.schedule
 
 -- RULES 15.7: "where an answer's period is above its floor, the slacks of the rules of the loop that is shown, at the returned period and latencies,
 -- add up to less than the number of the loop's setup rules"
-pub loop_leaves_no_room : (f : List ℕ) {before after : List ℕ} (s : FileResult f before outcome.Answered after)
+pub loop_leaves_no_room : (f : List ℕ) {before after : List ℕ} (s : FileResult f before (Ok tt) after)
     → (network_of f).floor < s.output.period
     → LeavesNoRoom (network_of f) s.output.period s.output.latency s.output.loop
 loop_leaves_no_room f s = let a = s.output in shown_leaves (network_of f) a.period a.latency a.loop a.answer a.shown

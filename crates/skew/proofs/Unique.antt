@@ -1,5 +1,6 @@
 -- No two different results satisfy the scheduler's contract, but for the choice of the loop that is shown. Rests on the laws of tables, by
 -- which there is one number and one place, and on the definition of the answer, by which there is one period and one row of latencies.
+use Rattle.std.specs.Prelude.{Ok, Err}
 use mathlib.Core.Path.{◌≡◌, refl, sym, ◌∙◌}
 use mathlib.Core.Logic.{inl}
 use mathlib.Core.List.{List, [], ◌∷◌}
@@ -8,10 +9,11 @@ use native.Mathlib.Omega.{arith}
 use lib.IntN.{ℤ}
 use lib.ListN.{length}
 use Rattle.whole.proofs.Lin.{lin}
-use Rattle.paper.specs.declared.Outcome.{Outcome}
-use Rattle.paper.specs.declared.Outcome.TheVariants as outcome
+use Rattle.paper.specs.Numbers.{Outcome}
+use Rattle.paper.specs.declared.Unanswered.TheVariants as unanswered
 use Rattle.paper.specs.Network.{Network}
-use Rattle.paper.specs.Rules.{Rule, tail, head}
+use Rattle.paper.specs.declared.Rule.{Rule}
+use Rattle.paper.specs.Rules.{tail, head}
 use Rattle.paper.specs.Chains.{SameMembers}
 use Rattle.paper.specs.Schedule.{Answer, Refutes, Shown}
 use Rattle.paper.specs.File.{network_of}
@@ -105,12 +107,12 @@ same_alone l m before after after' a b one = record { its_loop = b; one_loop = �
 
 left_unique : (N : Network) (before : List ℕ) (o : Outcome) (after after' : List ℕ) → Left N o before after → Left N o before after'
     → SameButLoop N before o after after'
-left_unique N before outcome.Answered after after' l m = same_answer N before after after'
-left_unique N before (outcome.Refused x) after after' l m = l ∙ sym m
-left_unique N before outcome.Room after after' l m = l ∙ sym m
-left_unique N before outcome.NoPeriod after after' l m = λ a b.
+left_unique N before (Ok tt) after after' l m = same_answer N before after after'
+left_unique N before (Err (unanswered.Refused x)) after after' l m = l ∙ sym m
+left_unique N before (Err unanswered.Room) after after' l m = l ∙ sym m
+left_unique N before (Err unanswered.NoPeriod) after after' l m = λ a b.
     same_alone a.loop b.loop before after after' a.bytes b.bytes (refutes_one N a.loop b.loop (a.refutes 1) (b.refutes 1))
-left_unique N before outcome.NoneToCeiling after after' l m = λ a b.
+left_unique N before (Err unanswered.NoneToCeiling) after after' l m = λ a b.
     same_alone a.loop b.loop before after after' a.bytes b.bytes (refutes_one N a.loop b.loop a.refutes b.refutes)
 
 -- Of any network, with any table of numbers whose rows each have one place: one outcome, and one output but for the loop.

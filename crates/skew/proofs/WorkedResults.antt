@@ -5,14 +5,13 @@ use mathlib.Core.List.{List, [], ◌++◌}
 use Prim.Native.Nat.{ℕ, ◌+◌, ◌*◌, ◌≤◌}
 use lib.IntN.{pos}
 use lib.ListN.{length, get_or, drop}
-use Rattle.paper.specs.declared.Outcome.{Outcome}
 use Rattle.paper.specs.Network.{Network}
-use Rattle.paper.specs.Rules.{Rule}
+use Rattle.paper.specs.declared.Rule.{Rule}
 use Rattle.paper.specs.Chains.{All}
 use Rattle.paper.specs.File.{network_of}
 use Rattle.paper.specs.Table.{Given}
 use Rattle.paper.specs.Refusals.{refusals}
-use Rattle.paper.specs.Numbers.{outcome_number, outcome_place}
+use Rattle.paper.specs.Numbers.{Outcome, outcome_number, outcome_place}
 use Rattle.paper.specs.Outcome.{Left, FileResult}
 use Rattle.worked.specs.Cases.{Expected, answered, refused_8, refused_9, Case, Comes, number_of, Worked, file_of, cases}
 use Rattle.worked.specs.RequestCases.{request_cases}

@@ -1,8 +1,10 @@
 -- The rule question that a schedule is held against, what is said of its reply, and between which ends a slack lies.
 use Rattle.std.specs.Prelude.{◌≡◌, List, ℕ, ◌<◌, ℤ, pos, neg_ℤ}
-use Rattle.paper.specs.declared.Reply.{Reply}
+use Rattle.paper.specs.Numbers.{Reply}
 use Rattle.paper.specs.Network.{Network}
-use Rattle.paper.specs.Rules.{Rule, Setup, Hold, Low, High, kind, number, tail, head}
+use Rattle.paper.specs.declared.Rule.{Rule}
+use Rattle.paper.specs.declared.Rule.TheVariants.{Setup, Hold, Low, High}
+use Rattle.paper.specs.Rules.{kind, number, tail, head}
 use Rattle.paper.specs.File.{network_of}
 use Rattle.paper.specs.Table.{Row}
 use Rattle.paper.specs.Question.{Question, InRange, Answers, question_refusals, with_slack, Yes}

@@ -1,11 +1,12 @@
 -- What the loop that is shown proves of the periods: above the floor that no smaller one has a schedule, and where there is no answer, that
 -- none has. And how a reader sees it on the slacks of the loop's rules.
-use Rattle.std.specs.Prelude.{◌≡◌, List, ℕ, ◌≤◌, ◌<◌, ℤ, pos, ◌≤ℤ◌, ◌<ℤ◌}
+use Rattle.std.specs.Prelude.{◌≡◌, List, ℕ, ◌≤◌, ◌<◌, ℤ, pos, ◌≤ℤ◌, ◌<ℤ◌, Ok, Err}
 use Rattle.whole.specs.Sums.{total}
-use Rattle.paper.specs.declared.Outcome.{Outcome}
-use Rattle.paper.specs.declared.Outcome.TheVariants as outcome
+use Rattle.paper.specs.Numbers.{Outcome}
+use Rattle.paper.specs.declared.Unanswered.TheVariants as unanswered
 use Rattle.paper.specs.Network.{Network}
-use Rattle.paper.specs.Rules.{Rule, slack_by}
+use Rattle.paper.specs.declared.Rule.{Rule}
+use Rattle.paper.specs.Rules.{slack_by}
 use Rattle.paper.specs.Schedule.{Refutes, setups, need}
 use Rattle.paper.specs.Refusals.{Scheduled, NoPeriod}
 use Rattle.paper.specs.Outcome.{Left}
@@ -38,8 +39,8 @@ pub record ProvesNoneToCeiling (N : Network) (l : List Rule) : Type 0 where
 
 -- what the loop in the output proves, by cases of the outcome; number 7 and what comes before it write none
 abbrev pub LoopProves : (N : Network) (before : List ℕ) (o : Outcome) (after : List ℕ) → Left N o before after → Type 0
-LoopProves N before outcome.Answered after l = N.floor < l.period → ProvesLeast N l.period l.loop
-LoopProves N before (outcome.Refused x) after l = Unit {0}
-LoopProves N before outcome.Room after l = Unit {0}
-LoopProves N before outcome.NoPeriod after l = ProvesNone N l.loop
-LoopProves N before outcome.NoneToCeiling after l = ProvesNoneToCeiling N l.loop
+LoopProves N before (Ok tt) after l = N.floor < l.period → ProvesLeast N l.period l.loop
+LoopProves N before (Err (unanswered.Refused x)) after l = Unit {0}
+LoopProves N before (Err unanswered.Room) after l = Unit {0}
+LoopProves N before (Err unanswered.NoPeriod) after l = ProvesNone N l.loop
+LoopProves N before (Err unanswered.NoneToCeiling) after l = ProvesNoneToCeiling N l.loop

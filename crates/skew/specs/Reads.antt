@@ -1,9 +1,11 @@
 -- What stands in the output, number by number: what a caller reads there.
-use Rattle.std.specs.Prelude.{◌≡◌, List, ℕ, ◌+◌, ◌*◌, ◌<◌, ℤ, pos, length, get_or}
+use Rattle.std.specs.Prelude.{◌≡◌, List, ℕ, ◌+◌, ◌*◌, ◌<◌, ℤ, pos, length, get_or, Ok, Err}
 use Rattle.whole.specs.Four.{number_at}
-use Rattle.paper.specs.declared.Outcome.{Outcome}
-use Rattle.paper.specs.declared.Outcome.TheVariants as outcome
-use Rattle.paper.specs.Rules.{Rule, Low, kind, number}
+use Rattle.paper.specs.Numbers.{Outcome}
+use Rattle.paper.specs.declared.Unanswered.TheVariants as unanswered
+use Rattle.paper.specs.declared.Rule.{Rule}
+use Rattle.paper.specs.declared.Rule.TheVariants.{Low}
+use Rattle.paper.specs.Rules.{kind, number}
 use Rattle.paper.specs.Network.{Network}
 use Rattle.paper.specs.Outcome.{Left}
 
@@ -18,8 +20,8 @@ pub record Reads (after : List ℕ) (P n : ℕ) (x : ℕ → ℤ) (l : List Rule
 
 -- by cases of the outcome: the answer (RULES 7.5), or the loop alone (RULES 7.6)
 abbrev pub ReadsBack : (N : Network) (before : List ℕ) (o : Outcome) (after : List ℕ) → Left N o before after → Type 0
-ReadsBack N before outcome.Answered after l = Reads after l.period N.registers l.latency l.loop
-ReadsBack N before (outcome.Refused x) after l = Unit {0}
-ReadsBack N before outcome.Room after l = Unit {0}
-ReadsBack N before outcome.NoPeriod after l = Reads after 0 0 (λ i. pos 0) l.loop
-ReadsBack N before outcome.NoneToCeiling after l = Reads after 0 0 (λ i. pos 0) l.loop
+ReadsBack N before (Ok tt) after l = Reads after l.period N.registers l.latency l.loop
+ReadsBack N before (Err (unanswered.Refused x)) after l = Unit {0}
+ReadsBack N before (Err unanswered.Room) after l = Unit {0}
+ReadsBack N before (Err unanswered.NoPeriod) after l = Reads after 0 0 (λ i. pos 0) l.loop
+ReadsBack N before (Err unanswered.NoneToCeiling) after l = Reads after 0 0 (λ i. pos 0) l.loop

@@ -1,21 +1,20 @@
 -- What a row of the networks worked by hand (RULES 11.5) says of the scheduler's results: with room enough, the row's own outcome and bytes
 -- are allowed, and nothing else is, but for the loop.
-use Rattle.std.specs.Prelude.{◌≡◌, List, [], ◌++◌, ℕ, ◌≤◌, pos, length, get_or, drop}
-use Rattle.paper.specs.declared.Outcome.{Outcome}
-use Rattle.paper.specs.declared.Outcome.TheVariants as outcome
-use Rattle.paper.specs.Rules.{Rule}
+use Rattle.std.specs.Prelude.{◌≡◌, List, [], ◌++◌, ℕ, ◌≤◌, pos, length, get_or, drop, Ok, Err}
+use Rattle.paper.specs.declared.Unanswered.TheVariants as unanswered
+use Rattle.paper.specs.declared.Rule.{Rule}
 use Rattle.paper.specs.File.{network_of}
 use Rattle.paper.specs.Output.{skew_record, latency_records, entry_records, Front}
-use Rattle.paper.specs.Numbers.{outcome_number, outcome_place}
+use Rattle.paper.specs.Numbers.{Outcome, outcome_number, outcome_place}
 use Rattle.paper.specs.Outcome.{FileResult}
 use Rattle.worked.specs.Cases.{Expected, answered, refused_8, refused_9, Case, Comes, number_of, file_of}
 use Rattle.paper.specs.Limits.{room_for}
 
 -- the outcome, the loop and the bytes that a row names
 abbrev pub outcome_of : Expected → Outcome
-outcome_of (answered P latencies loop) = outcome.Answered
-outcome_of (refused_8 loop) = outcome.NoPeriod
-outcome_of (refused_9 loop) = outcome.NoneToCeiling
+outcome_of (answered P latencies loop) = Ok tt
+outcome_of (refused_8 loop) = Err unanswered.NoPeriod
+outcome_of (refused_9 loop) = Err unanswered.NoneToCeiling
 
 abbrev pub loop_of : Expected → List Rule
 loop_of (answered P latencies loop) = loop

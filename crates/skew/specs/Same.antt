@@ -1,10 +1,10 @@
 -- What two results of one call have in common, in the end everything but the loop that is shown. RULES 10.12: "no two different results
 -- satisfy the contract. There is one exception: which loop is shown (7.12)."
-use Rattle.std.specs.Prelude.{◌≡◌, List, [], ℕ, ◌<◌}
-use Rattle.paper.specs.declared.Outcome.{Outcome}
-use Rattle.paper.specs.declared.Outcome.TheVariants as outcome
+use Rattle.std.specs.Prelude.{◌≡◌, List, [], ℕ, ◌<◌, Ok, Err}
+use Rattle.paper.specs.Numbers.{Outcome}
+use Rattle.paper.specs.declared.Unanswered.TheVariants as unanswered
 use Rattle.paper.specs.Network.{Network}
-use Rattle.paper.specs.Rules.{Rule}
+use Rattle.paper.specs.declared.Rule.{Rule}
 use Rattle.paper.specs.Chains.{SameMembers}
 use Rattle.paper.specs.Output.{Answered, NoPeriodShown, NoneToCeilingShown, AnswerOutput, LoopAlone}
 
@@ -26,11 +26,11 @@ pub record SameAlone (l m : List Rule) (before after after' : List ℕ) : Type 0
 -- Two outputs, left with one outcome: number 7 and what comes before it leave one output; an answer, and numbers 8 and 9, leave one output but
 -- for the loop, whatever period, latencies and loop the two outputs are said to hold.
 abbrev pub SameButLoop : Network → List ℕ → Outcome → List ℕ → List ℕ → Type 0
-SameButLoop N before outcome.Answered after after' =
+SameButLoop N before (Ok tt) after after' =
     (a : Answered N before after) (b : Answered N before after') → SameAnswer N before after after' a b
-SameButLoop N before (outcome.Refused x) after after' = after ≡ after'
-SameButLoop N before outcome.Room after after' = after ≡ after'
-SameButLoop N before outcome.NoPeriod after after' =
+SameButLoop N before (Err (unanswered.Refused x)) after after' = after ≡ after'
+SameButLoop N before (Err unanswered.Room) after after' = after ≡ after'
+SameButLoop N before (Err unanswered.NoPeriod) after after' =
     (a : NoPeriodShown N before after) (b : NoPeriodShown N before after') → SameAlone a.loop b.loop before after after'
-SameButLoop N before outcome.NoneToCeiling after after' =
+SameButLoop N before (Err unanswered.NoneToCeiling) after after' =
     (a : NoneToCeilingShown N before after) (b : NoneToCeilingShown N before after') → SameAlone a.loop b.loop before after after'

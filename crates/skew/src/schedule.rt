@@ -2,22 +2,16 @@
 // number and one place.
 ghost use Rattle.paper.specs.Outcome.{FileResult};
 
-use paper::{Outcome, Refusal, Verdict};
+use paper::Unanswered;
 
 // Reads the network in `file` and leaves the answer in `out`. It returns for every file and every size of `out`.
-pub fn schedule(file: &[u8], out: &mut [u8]) -> Outcome
+pub fn schedule(file: &[u8], out: &mut [u8]) -> Result<(), Unanswered>
     ensures { FileResult file.now out.old result out.new }
 {
-    let verdict = network::judge(file);
-    match verdict {
-        Verdict::Faulty(x) => Outcome::Refused(Refusal::File(x)),
-        Verdict::Accepted => {
-            let h = network::read::header(file);
-            let n = h.registers;
-            if out.len() < 14 + 16 * n {
-                return Outcome::Room;
-            }
-            period::solve(file, out)
-        }
+    network::judge(file)?;
+    let h = network::read::header(file);
+    if out.len() < 14 + 16 * h.registers {
+        return Err(Unanswered::Room);
     }
+    period::solve(file, out)
 }

@@ -1,6 +1,7 @@
 -- What stands above the number in the packed integer fits its 32 bits. A place lies below 2048: it is 0, or the number of a record, and the
 -- counts of records have been found in range by then. A slack lies between the ends of its kind. Rests on `TableLaws` of `paper`, of which what
 -- is known of the table's rows is all that is used, and on `Slacks` of `skew`.
+use Rattle.std.specs.Prelude.{Ok, Err}
 use mathlib.Core.List.{List}
 use Prim.Native.Nat.{ℕ, ◌<◌}
 use native.Mathlib.Omega.{arith}
@@ -13,13 +14,11 @@ use Rattle.whole.specs.Between.{Between}
 use Rattle.whole.proofs.Lin.{lin}
 use Rattle.whole.proofs.Four.{word_small}
 use Rattle.paper.specs.declared.Delay.{Delay}
-use Rattle.paper.specs.declared.Outcome.{Outcome}
-use Rattle.paper.specs.declared.Reply.{Reply}
-use Rattle.paper.specs.declared.Reply.TheVariants as reply
-use Rattle.paper.specs.Rules.{Rule, Setup, Hold, Low, High}
+use Rattle.paper.specs.declared.Rule.{Rule}
+use Rattle.paper.specs.declared.Rule.TheVariants.{Setup, Hold, Low, High}
 use Rattle.paper.specs.File.{network_of}
 use Rattle.paper.specs.Refusals.{faults, refusals, schedule_rows}
-use Rattle.paper.specs.Numbers.{outcome_place, reply_place}
+use Rattle.paper.specs.Numbers.{Outcome, Reply, outcome_place, reply_place}
 use Rattle.paper.specs.Outcome.{FileResult}
 use Rattle.paper.specs.Question.{Question, FileAnswers, question_refusals, question_rows}
 use Rattle.paper.proofs.TableLaws.{given_below, below-append, faults_below, schedule_below, question_below}
@@ -47,7 +46,7 @@ ends_fit (Low i) b = omega lin
 ends_fit (High i) b = omega lin
 
 -- so does the question's slack
-pub slack_fits : (f : List ℕ) {q : Question} (d : Delay) → FileAnswers f q (reply.Slack d) → SFits w32 d.0
+pub slack_fits : (f : List ℕ) {q : Question} (d : Delay) → FileAnswers f q (Ok d) → SFits w32 d.0
 slack_fits f d a =
     let h = told_within f d a in
     ends_fit h.0 h.2
@@ -59,11 +58,11 @@ below_ends (Low i) b = omega lin
 below_ends (High i) b = omega lin
 
 -- and what is read as the slack of a refusal lies below every slack
-pub no_slack_below : (f : List ℕ) {q : Question} (d : Delay) → FileAnswers f q (reply.Slack d) → no_slack <ℤ d.0
+pub no_slack_below : (f : List ℕ) {q : Question} (d : Delay) → FileAnswers f q (Ok d) → no_slack <ℤ d.0
 no_slack_below f d a =
     let h = told_within f d a in
     below_ends h.0 h.2
 
 pub above_below : (f : List ℕ) {q : Question} (o : Reply) → FileAnswers f q o → above_of o < 4294967296
-above_below f (reply.Slack d) a = word_small d.0 (slack_fits f d a)
-above_below f (reply.Refused x) a = omega (arith, reply_below f a)
+above_below f (Ok d) a = word_small d.0 (slack_fits f d a)
+above_below f (Err x) a = omega (arith, reply_below f a)

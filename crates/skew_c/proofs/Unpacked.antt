@@ -1,5 +1,6 @@
 -- What a caller reads out of a packed integer is what was packed, and so what the two functions return is what their contracts say. Rests on
 -- `Places`.
+use Rattle.std.specs.Prelude.{Ok, Err}
 use mathlib.Core.Path.{◌≡◌, refl}
 use mathlib.Core.Logic.{◌↔◌}
 use mathlib.Core.List.{List}
@@ -14,12 +15,9 @@ use mir.Val.{SFits}
 use Rattle.whole.specs.Four.{word_of}
 use Rattle.whole.proofs.Lin.{lin, true_not_false}
 use Rattle.whole.proofs.Four.{signed_word}
-use Rattle.paper.specs.declared.Outcome.{Outcome}
-use Rattle.paper.specs.declared.Outcome.TheVariants as outcome
-use Rattle.paper.specs.declared.Reply.{Reply}
-use Rattle.paper.specs.declared.Reply.TheVariants as reply
+use Rattle.paper.specs.declared.Unanswered.TheVariants as unanswered
 use Rattle.paper.specs.Rules.{◌≥ℤ◌}
-use Rattle.paper.specs.Numbers.{refusal_number, refusal_place, outcome_number, outcome_place, reply_number}
+use Rattle.paper.specs.Numbers.{Outcome, Reply, refusal_number, refusal_place, outcome_number, outcome_place, reply_number}
 use Rattle.paper.specs.Outcome.{FileResult}
 use Rattle.paper.specs.Question.{Question, FileAnswers}
 use Rattle.paper.proofs.NumberLaws.{refusal_above}
@@ -65,11 +63,11 @@ module _ (a r : ℕ) (e : r ≡ packed 0 a) where
 -- ---- the scheduler
 
 outcome_place_read : (o : Outcome) {r : ℕ} → outcome_number o < 4294967296 → r ≡ packed_outcome o → place_in r ≡ outcome_place o
-outcome_place_read outcome.Answered {r} n e = reads_no_place 0 r e
-outcome_place_read (outcome.Refused x) {r} n e = reads_place (refusal_number x) (refusal_place x) r n e (refusal_above x)
-outcome_place_read outcome.Room {r} n e = reads_place 7 0 r n e (omega arith)
-outcome_place_read outcome.NoPeriod {r} n e = reads_place 8 0 r n e (omega arith)
-outcome_place_read outcome.NoneToCeiling {r} n e = reads_place 9 0 r n e (omega arith)
+outcome_place_read (Ok tt) {r} n e = reads_no_place 0 r e
+outcome_place_read (Err (unanswered.Refused x)) {r} n e = reads_place (refusal_number x) (refusal_place x) r n e (refusal_above x)
+outcome_place_read (Err unanswered.Room) {r} n e = reads_place 7 0 r n e (omega arith)
+outcome_place_read (Err unanswered.NoPeriod) {r} n e = reads_place 8 0 r n e (omega arith)
+outcome_place_read (Err unanswered.NoneToCeiling) {r} n e = reads_place 9 0 r n e (omega arith)
 
 -- an outcome that is packed is what the scheduler's contract asks for
 pub scheduled : (f : List ℕ) {before after : List ℕ} {r : ℕ} (o : Outcome) → FileResult f before o after → outcome_number o < 4294967296
@@ -88,10 +86,10 @@ scheduled f {r = r} o g n e =
 -- a reply that is packed is what the question's contract asks for
 pub replied : (f : List ℕ) {q : Question} {r : ℕ} (o : Reply) → FileAnswers f q o → reply_number o < 4294967296
     → r ≡ packed_reply o → Replied f q r
-replied f {r = r} (reply.Slack d) g n e =
+replied f {r = r} (Ok d) g n e =
     let slack = reads_slack (word_of d.0) r e d.0 (slack_fits f d g) refl in
     record {
-      reply = reply.Slack d;
+      reply = Ok d;
       answers = g;
       is_packed = e;
       number_read = reads_number 0 (word_of d.0) r n e;
@@ -99,10 +97,10 @@ replied f {r = r} (reply.Slack d) g n e =
       slack_read = slack;
       yes_read = reads_yes (word_of d.0) r e d.0 slack;
     }
-replied f {r = r} (reply.Refused x) g n e =
+replied f {r = r} (Err x) g n e =
     let no = reads_no_yes (refusal_number x) (refusal_place x) r n e (refusal_above x) in
     record {
-      reply = reply.Refused x;
+      reply = Err x;
       answers = g;
       is_packed = e;
       number_read = reads_number (refusal_number x) (refusal_place x) r n e;

@@ -1,8 +1,6 @@
 -- What the two functions may return and leave: what those of `skew` promise, packed.
 use Rattle.std.specs.Prelude.{◌≡◌, ◌↔◌, List, true, ℕ}
-use Rattle.paper.specs.declared.Outcome.{Outcome}
-use Rattle.paper.specs.declared.Reply.{Reply}
-use Rattle.paper.specs.Numbers.{outcome_number, outcome_place, reply_number, reply_place}
+use Rattle.paper.specs.Numbers.{Outcome, Reply, outcome_number, outcome_place, reply_number, reply_place}
 use Rattle.paper.specs.Outcome.{FileResult}
 use Rattle.paper.specs.Question.{Question, FileAnswers, Yes}
 use Rattle.skew_c.specs.Packed.{packed_outcome, packed_reply, slack_of, number_in, place_in, slack_in, yes_in}

@@ -9,7 +9,8 @@ ghost use Rattle.paper.specs.Question.{asked};
 ghost use Rattle.skew_c.specs.Packed.{packed, above_of};
 ghost use Rattle.skew_c.specs.Returned.{Scheduled, Replied};
 
-use paper::{Delay, Reply};
+use paper::codes::Numbered;
+use paper::{Delay, Refusal};
 
 // Reads the network in `file` and leaves the answer in `out`. It returns for every file and every size of `out`.
 #[unsafe(no_mangle)]
@@ -17,9 +18,7 @@ pub extern "C" fn skew_schedule(file: &[u8], out: &mut [u8]) -> u64
     ensures { Scheduled file.now out.old result out.new }
 {
     let o = skew::schedule::schedule(file, out);
-    let number = paper::codes::outcome_number(o);
-    let place = paper::codes::outcome_place(o);
-    pack(number, place as u64)
+    pack(o.number(), o.place() as u64)
 }
 
 // By how much the rule of this kind and number is met at `period` by the latencies at its arrow's tail and head.
@@ -35,25 +34,17 @@ pub extern "C" fn skew_question(
     ensures { Replied file.now (asked period kind number tail head) result }
 {
     let o = skew::question::question(file, period, kind, number, tail, head);
-    let refusal = paper::codes::reply_number(o);
-    pack(refusal, above(o))
+    pack(o.number(), above(o))
 }
 
 // What stands above a reply's number: the slack, or a refusal's place.
-fn above(o: Reply) -> u64
+fn above(o: Result<Delay, Refusal>) -> u64
     ensures { result ≡ above_of o }
 {
     match o {
-        Reply::Slack(s) => word(s),
-        Reply::Refused(x) => paper::codes::refusal_place(x) as u64,
+        Ok(s) => u64::from(whole::unsigned(s.0)),
+        Err(x) => x.place() as u64,
     }
-}
-
-// A slack in two's complement, of 32 bits.
-fn word(s: Delay) -> u64
-    ensures { result ≡ word_of s.0 }
-{
-    whole::unsigned(s.0) as u64
 }
 
 // The integer that carries a number and what stands above it.
@@ -61,5 +52,5 @@ fn pack(number: u32, above: u64) -> u64
     requires { above < 4294967296 }
     ensures { result ≡ packed number above }
 {
-    number as u64 + above * 4_294_967_296
+    u64::from(number) + above * 4_294_967_296
 }

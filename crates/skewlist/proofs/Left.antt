@@ -1,5 +1,6 @@
 -- Whatever the scheduler returns and leaves can be listed: what the answer's first record counts is small and stands in the answer.
 -- And which ceiling its text has. Rests on `Texts.antt`, on `ReadBack.antt` of `skew` and on `Answers.antt` of `listing`.
+use Rattle.std.specs.Prelude.{Ok, Err}
 use mathlib.Core.Path.{◌≡◌, refl, sym, ap, subst, ◌∙◌}
 use mathlib.Core.List.{List}
 use Prim.Native.Nat.{ℕ, ◌≤◌}
@@ -8,8 +9,8 @@ use lib.IntN.{ℤ, pos}
 use lib.ListN.{length, drop, length-append}
 use lib.Seq.{length-take-le}
 use Rattle.io.specs.Counts.{IsPrefixLen}
-use Rattle.paper.specs.declared.Outcome.{Outcome}
-use Rattle.paper.specs.declared.Outcome.TheVariants as outcome
+use Rattle.paper.specs.Numbers.{Outcome}
+use Rattle.paper.specs.declared.Unanswered.TheVariants as unanswered
 use Rattle.paper.specs.Network.{Network}
 use Rattle.paper.specs.File.{network_of}
 use Rattle.paper.specs.Output.{Front}
@@ -26,30 +27,30 @@ use Rattle.skewlist.proofs.Texts.{result_text_lem}
 
 -- a listing can be made of every result
 pub counted : (f : List ℕ) {before after : List ℕ} (o : Outcome) → FileResult f before o after → Counted o after
-counted f {before} {after} outcome.Answered r =
+counted f {before} {after} (Ok tt) r =
     let N : Network = network_of f in
     let a = accepted_beyond f r refl in
     let g = accepted_legal f a in
     let s = answer_small N g r.output.period r.output.latency r.output.loop r.output.answer r.output.shown in
     answered_listable N before after r.output (omega (arith, s.period)) s.count s.entries
-counted f (outcome.Refused x) r = tt
-counted f outcome.Room r = tt
-counted f {before} {after} outcome.NoPeriod r =
+counted f (Err (unanswered.Refused x)) r = tt
+counted f (Err unanswered.Room) r = tt
+counted f {before} {after} (Err unanswered.NoPeriod) r =
     let a = accepted_beyond f r refl in
     let s = alone_small (network_of f) (accepted_legal f a) r.output.loop (r.output.refutes 0).is_loop in
     loop_listable r.output.loop before after r.output.bytes s.entries
-counted f {before} {after} outcome.NoneToCeiling r =
+counted f {before} {after} (Err unanswered.NoneToCeiling) r =
     let a = accepted_beyond f r refl in
     let s = alone_small (network_of f) (accepted_legal f a) r.output.loop r.output.refutes.is_loop in
     loop_listable r.output.loop before after r.output.bytes s.entries
 
 -- a file of which a loop alone is shown was accepted
 pub shown : (f : List ℕ) {before after : List ℕ} (o : Outcome) → FileResult f before o after → CeilingKnown f o
-shown f outcome.Answered r = tt
-shown f (outcome.Refused x) r = tt
-shown f outcome.Room r = tt
-shown f outcome.NoPeriod r = accepted_beyond f r refl
-shown f outcome.NoneToCeiling r = accepted_beyond f r refl
+shown f (Ok tt) r = tt
+shown f (Err (unanswered.Refused x)) r = tt
+shown f (Err unanswered.Room) r = tt
+shown f (Err unanswered.NoPeriod) r = accepted_beyond f r refl
+shown f (Err unanswered.NoneToCeiling) r = accepted_beyond f r refl
 
 -- where no text has a ceiling, any number leaves the text the file's
 pub ceiling_none : (f : List ℕ) {o known : Outcome} → o ≡ known → ((x y : ℤ) (answer : List ℕ) → text_of x known answer ≡ text_of y known answer)

@@ -1,7 +1,7 @@
 -- What the program writes: the text of a result of the scheduler's, at the front of its room.
-use Rattle.std.specs.Prelude.{◌≡◌, List, ℕ, ℤ, pos, length}
-use Rattle.paper.specs.declared.Outcome.{Outcome}
-use Rattle.paper.specs.declared.Outcome.TheVariants as outcome
+use Rattle.std.specs.Prelude.{◌≡◌, List, ℕ, ℤ, pos, length, Ok, Err}
+use Rattle.paper.specs.Numbers.{Outcome}
+use Rattle.paper.specs.declared.Unanswered.TheVariants as unanswered
 use Rattle.paper.specs.File.{network_of}
 use Rattle.paper.specs.Output.{Front}
 use Rattle.paper.specs.Outcome.{FileResult}
@@ -21,11 +21,11 @@ pub record Listing (file before answer blank text : List ℕ) (size : ℕ) : Typ
 
 -- a file whose ceiling is shown is accepted
 abbrev pub CeilingKnown : List ℕ → Outcome → Type 0
-CeilingKnown file outcome.Answered = Unit {0}
-CeilingKnown file (outcome.Refused x) = Unit {0}
-CeilingKnown file outcome.Room = Unit {0}
-CeilingKnown file outcome.NoPeriod = Accepted file
-CeilingKnown file outcome.NoneToCeiling = Accepted file
+CeilingKnown file (Ok tt) = Unit {0}
+CeilingKnown file (Err (unanswered.Refused x)) = Unit {0}
+CeilingKnown file (Err unanswered.Room) = Unit {0}
+CeilingKnown file (Err unanswered.NoPeriod) = Accepted file
+CeilingKnown file (Err unanswered.NoneToCeiling) = Accepted file
 
 -- the text over the bytes of an answer, with the ceiling of the file's own network where a text has one
 abbrev pub file_text : List ℕ → Outcome → List ℕ → List ℕ

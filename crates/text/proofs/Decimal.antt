@@ -1,14 +1,19 @@
 -- Decimal numbers: a number's digits are those of its tenth part and then its last one; read, they give the number again; each is a digit,
--- and the first of a number that is not 0 is not the digit 0; and how many there are at most. Rests on no other file.
+-- and the first of a number that is not 0 is not the digit 0; the library writes the same; and how many there are at most. Rests on no other
+-- file.
 use mathlib.Core.Path.{◌≡◌, refl, sym, ap, subst, ◌∙◌}
 use mathlib.Core.List.{List, [], ◌∷◌, ◌++◌}
 use mathlib.Core.Bool.{Bool, true, false}
-use Prim.Native.Nat.{ℕ, zero, suc, ◌+◌, ◌*◌, ◌-◌, ◌/◌, ◌%◌, ◌≤◌, ◌<◌}
+use Prim.Native.Nat.{ℕ, zero, suc, ◌+◌, ◌*◌, ◌-◌, ◌/◌, ◌%◌, ◌^◌, ◌≤◌, ◌<◌}
 use native.Mathlib.Omega.{arith}
 use lib.IntN.{ℤ, pos, negsuc}
 use lib.Dec.{ltb}
 use lib.ListN.{length, get_or, length-append, get_or-append}
 use borrow.Author.Tests.{ltb-true, ltb-false, lt-ltb, le-ltb}
+use lib.Signed.{mag}
+use Rattle.std.proofs.Common.{rules}
+use Rattle.std.proofs.lemmas.Fmt.{AppendsLastDigit, decimal_from_appends, length-decimal-le_succ}
+use Rattle.std.specs.Fmt.{decimal as std_decimal, signed_decimal}
 use Rattle.text.specs.Decimal.{digits, decimal, whole, reading}
 
 -- ---- one digit, and more than one
@@ -122,6 +127,22 @@ whole_tells (negsuc m) (negsuc n) e =
     let s : suc m ≡ suc n = decimal_tells (suc m) (suc n) l in
     let t : m ≡ n = omega arith in
     ap negsuc t
+
+-- ---- what the library writes
+
+-- The library writes the same digits of a number of 64 bits: what is one digit for a number below 10, and one further digit behind those of
+-- the tenth part, is its decimal, however the recursion ends.
+pub decimal_is : (n : ℕ) → n < 2 ^ 64 → std_decimal n ≡ decimal n
+unfolding decimal
+decimal_is n h =
+    let appends : AppendsLastDigit digits = record { one = digits_one; more = digits_more } in
+    sym (decimal_from_appends digits appends (suc n) n h (search (rules, length-decimal-le_succ)))
+
+-- and of a whole number, with the same minus
+pub whole_is : (z : ℤ) → mag z < 2 ^ 63 → signed_decimal z ≡ whole z
+unfolding whole
+whole_is (pos n) h = decimal_is n (omega arith)
+whole_is (negsuc n) h = rw (decimal_is (suc n) (omega arith))
 
 -- ---- how many digits
 

@@ -1,4 +1,3 @@
 -- For callers: Runs, how parts follow one another, and Decimal, what the digits say and how many there are.
 pub mod Decimal
-pub mod Signs
 pub mod Runs

@@ -1,22 +1,48 @@
--- Four-byte numbers: what is written is read back, every byte outside keeps its value, and each number has one writing only. Rests on
--- `Stores.antt` and `Lin.antt`.
+-- Four-byte numbers: the library's bytes are the paper's; what is written is read back, every byte outside keeps its value, and each number
+-- has one writing only. Rests on `Stores.antt`.
 use mathlib.Core.Path.{◌≡◌, refl, sym, ap, ◌∙◌}
 use mathlib.Core.Logic.{◌⊎◌, inl, inr}
 use mathlib.Core.List.{List, [], ◌∷◌, ◌++◌}
-use mathlib.Core.Bool.{Bool, true, false}
-use Prim.Native.Nat.{ℕ, suc, ◌+◌, ◌-◌, ◌*◌, ◌/◌, ◌%◌, ◌≤◌, ◌<◌}
+use Prim.Native.Nat.{ℕ, ◌+◌, ◌*◌, ◌/◌, ◌%◌, ◌≤◌, ◌<◌}
 use native.Mathlib.Omega.{arith}
-use lib.IntN.{ℤ, pos, negsuc, ◌-ℤ◌}
+use lib.IntN.{ℤ, pos, negsuc}
 use lib.ListN.{length, get_or}
 use lib.Seq.{sets, get_or-append-add}
 use native.Mathlib.Nat.{add_assoc, add-zero}
-use lib.Dec.{ltb}
-use borrow.Author.Tests.{lt-ltb, le-ltb}
 use mir.Syntax.{w32}
 use mir.Val.{SFits}
+use mir.Facts.{to_z-of_z}
+use Rattle.std.proofs.Common.{rules}
+use Rattle.std.specs.Int.{cast_unsigned, cast_signed, to_le_bytes, from_le_bytes}
+use Rattle.std.proofs.lemmas.Int.{ints, of_z-to_z}
+use Rattle.std.proofs.lemmas.Nat.{from_le_bytes-to_le_bytes_4}
 use Rattle.whole.specs.Four.{word_at, signed_of, number_at, word_of, bytes_of, four}
-use Rattle.whole.proofs.Lin.{lin, minus}
 use Rattle.whole.proofs.Stores.{stores_before, stores_after, stores_at}
+
+-- ---- the library's names for the definitions
+
+-- a number of 32 bits as one without sign
+pub unsigned_is : (z : ℤ) → cast_unsigned w32 z ≡ word_of z
+unfolding word_of
+unsigned_is (pos n) = refl
+unsigned_is (negsuc n) = refl
+
+-- a number without sign, read as a signed one
+pub signed_is : (u : ℕ) → u < 4294967296 → cast_signed w32 u ≡ signed_of u
+unfolding signed_of
+signed_is u h = grind (arith, ints)
+
+-- its four bytes, low byte first
+pub bytes_are : (u : ℕ) → to_le_bytes w32 u ≡ bytes_of u
+unfolding bytes_of
+bytes_are u = refl
+
+-- four bytes, added up
+pub word_is : (s : List ℕ) (i : ℕ) → from_le_bytes w32 (get_or s i 0 ∷ get_or s (i + 1) 0 ∷ get_or s (i + 2) 0 ∷ get_or s (i + 3) 0 ∷ []) ≡ word_at s i
+unfolding word_at
+word_is s i = omega arith
+
+-- ---- there and back
 
 -- the number without sign that stands for a number of 32 bits is below 2 ^ 32
 pub word_small : (z : ℤ) → SFits w32 z → word_of z < 4294967296
@@ -26,39 +52,11 @@ word_small (negsuc n) h = omega (arith, h.sfits)
 
 -- and the number comes back from it
 pub signed_word : (z : ℤ) → SFits w32 z → signed_of (word_of z) ≡ z
-unfolding signed_of word_of
-signed_word (pos n) h = rw (lt-ltb n 2147483648 h.sfits)
-signed_word (negsuc n) h =
-    rw (le-ltb (4294967296 - suc n) 2147483648 (omega (arith, h.sfits)))
-    (let f = h.sfits in omega (lin, minus (pos (4294967296 - suc n)) (pos 4294967296)))
-
--- from 2 ^ 31 on a number without sign stands for a negative one
-lower_is : (u : ℕ) → u < 4294967296 → pos u -ℤ pos 4294967296 ≡ negsuc (4294967296 - suc u)
-lower_is u h = omega (lin, minus (pos u) (pos 4294967296))
-
-signed_case : (u : ℕ) (t : Bool) → ltb u 2147483648 ≡ t → u < 4294967296 → word_of (signed_of u) ≡ u
-unfolding signed_of word_of
-signed_case u true e h = rw e refl
-signed_case u false e h = rw (e, lower_is u h) (omega arith)
+signed_word z h = sym (signed_is (word_of z) (word_small z h)) ∙ rw (sym (unsigned_is z)) (to_z-of_z h)
 
 -- a number without sign comes back from the number that it stands for
 word_signed : (u : ℕ) → u < 4294967296 → word_of (signed_of u) ≡ u
-word_signed u h = signed_case u (ltb u 2147483648) refl h
-
--- u by its digits to the base 256, of which the fourth is the last
-quarters : (u : ℕ) → u < 4294967296 → u % 256 + 256 * (u / 256 % 256) + 65536 * (u / 65536 % 256) + 16777216 * (u / 16777216 % 256) ≡ u
-quarters u h =
-    let e2 : u / 65536 ≡ u / 256 / 256 = omega arith in
-    let e3 : u / 16777216 ≡ u / 65536 / 256 = omega arith in
-    let small : u / 16777216 < 256 = omega arith in
-    let one : u ≡ 256 * (u / 256) + u % 256 = omega arith in
-    let two : u / 256 ≡ 256 * (u / 65536) + u / 256 % 256 = omega arith in
-    let three : u / 65536 ≡ 256 * (u / 16777216) + u / 65536 % 256 = omega arith in
-    let four : u / 16777216 ≡ u / 16777216 % 256 = omega arith in
-    last u (u / 256) (u / 65536) (u / 16777216) _ _ _ _ one two three four
-  where
-    last : (u q r s a b c d : ℕ) → u ≡ 256 * q + a → q ≡ 256 * r + b → r ≡ 256 * s + c → s ≡ d → a + 256 * b + 65536 * c + 16777216 * d ≡ u
-    last u q r s a b c d e f g h = omega arith
+word_signed u h = sym (unsigned_is (signed_of u)) ∙ rw (sym (signed_is u h)) (of_z-to_z w32 u h)
 
 -- the four bytes of u, added up, are u again
 word_back : (s : List ℕ) (i u : ℕ) → i + 4 ≤ length s → u < 4294967296 → word_at (sets s i (bytes_of u)) i ≡ u
@@ -68,7 +66,7 @@ word_back s i u room h =
     let e1 : get_or (sets s i (bytes_of u)) (i + 1) 0 ≡ u / 256 % 256 = stores_at 0 (bytes_of u) s i 1 room (omega arith) in
     let e2 : get_or (sets s i (bytes_of u)) (i + 2) 0 ≡ u / 65536 % 256 = stores_at 0 (bytes_of u) s i 2 room (omega arith) in
     let e3 : get_or (sets s i (bytes_of u)) (i + 3) 0 ≡ u / 16777216 % 256 = stores_at 0 (bytes_of u) s i 3 room (omega arith) in
-    omega (arith, quarters u h)
+    omega (arith, from_le_bytes-to_le_bytes_4 u h)
 
 -- what is written is read back as the number that was written
 pub number_back : (s : List ℕ) (i : ℕ) (z : ℤ) → i + 4 ≤ length s → SFits w32 z → number_at (sets s i (four z)) i ≡ z
@@ -102,7 +100,4 @@ pub one_writing : (a b c d : ℕ) (z : ℤ) → a < 256 → b < 256 → c < 256 
 unfolding four bytes_of
 one_writing a b c d z ha hb hc hd e =
     let u : word_of z ≡ a + 256 * b + 65536 * c + 16777216 * d = ap word_of (sym e) ∙ word_signed _ (omega arith) in
-    rw u (ap₄ (omega arith) (omega arith) (omega arith) (omega arith))
-  where
-    ap₄ : {a b c d a' b' c' d' : ℕ} → a ≡ a' → b ≡ b' → c ≡ c' → d ≡ d' → ◌≡◌ {A = List ℕ} (a ∷ b ∷ c ∷ d ∷ []) (a' ∷ b' ∷ c' ∷ d' ∷ [])
-    ap₄ p q r s = cc
+    search (rules, u)

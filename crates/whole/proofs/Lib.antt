@@ -1,10 +1,9 @@
--- For callers: Lin, how `omega` reads whole numbers; Four, what is written is read back; Rounding, what rounding up gives; Sums, Stores,
--- Tests. Machine serves the ties here and in the crate text.
+-- For callers: Lin, how `omega` reads whole numbers; Four, what is written is read back; Rounding, what rounding up gives; Sums, Stores;
+-- Machine, that 32 bits are some of 64.
 pub mod Lin
 pub mod Machine
 pub mod Rounding
 pub mod Sums
 pub mod Stores
 pub mod Four
-pub mod Tests
 pub mod Examples

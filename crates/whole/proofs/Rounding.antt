@@ -1,15 +1,14 @@
 -- Rounding up is what its name says: the least whole number q with z ≤ q · g, and no other number is that. Rests on `Lin.antt`.
-use mathlib.Core.Path.{◌≡◌, refl, sym, ap, ◌∙◌}
+use mathlib.Core.Path.{◌≡◌, sym, ap, ◌∙◌}
 use Prim.Native.Nat.{ℕ, zero, suc, ◌+◌, ◌-◌, ◌*◌, ◌/◌, ◌≤◌, ◌<◌}
 use native.Mathlib.Omega.{arith}
-use native.Mathlib.Nat.{div-add-mod', mod-lt, div-lt_iff_lt-mul, le-div_iff_mul-le, div-eq_of_lt, div-le_self, add-div_right}
+use native.Mathlib.Nat.{div-add-mod', mod-lt, div-lt_iff_lt-mul, le-div_iff_mul-le, div-le_self, add-div_right, div-eq_of_lt-le, le-mul_of_pos_right}
 use lib.IntN.{ℤ, pos, negsuc, neg_ℤ, nat_abs, ◌*ℤ◌, ◌-ℤ◌}
-use lib.Signed.{◌≤ℤ◌, ◌<ℤ◌, non_neg}
-use lib.Dec.{T}
-use mir.Syntax.{w64}
-use mir.Val.{SFits}
+use lib.Signed.{◌≤ℤ◌, ◌<ℤ◌}
+use Rattle.std.proofs.lemmas.Grind.{div_ceil_times}
+use Rattle.std.specs.Int.{div_ceil}
 use Rattle.whole.specs.Rounding.{round_up, IsUp}
-use Rattle.whole.proofs.Lin.{lin, above, below, negs}
+use Rattle.whole.proofs.Lin.{lin, above, below, minus, negs}
 
 -- q · g, for a natural g, by its parts
 pub times : (q : ℤ) (g : ℕ) → above (q *ℤ pos g) + below q * g ≡ above q * g + below (q *ℤ pos g)
@@ -45,11 +44,7 @@ up_only z g q h enough least =
     let m = least (round_up z g) (up_enough z g h) in
     omega lin
 
--- ---- natural numbers, as the code rounds them
-
--- nothing, rounded up
-pub up_none : (k : ℕ) → 0 < k → IsUp 0 k 0
-up_none k h = record { is = sym (div-eq_of_lt (omega arith)); most = omega arith }
+-- ---- natural numbers
 
 -- n and one less than k are k and one less than n, so the quotient is one more than that of one less than n
 pub up_some : (n k : ℕ) → 0 < k → 0 < n → IsUp n k ((n - 1) / k + 1)
@@ -57,54 +52,23 @@ up_some n k h some =
     let e : n + (k - 1) ≡ (n - 1) + k = omega arith in
     record { is = sym (ap (λ x. x / k) e ∙ add-div_right (n - 1) h); most = omega (arith, div-le_self (n - 1) k) }
 
-up_is : (n k : ℕ) → 0 < k → IsUp n k ((n + (k - 1)) / k)
-up_is zero k h = let u = up_none k h in record { is = refl; most = omega (arith, u.is) }
-up_is (suc n) k h = let u = up_some (suc n) k h (omega arith) in record { is = refl; most = omega (arith, u.is, u.most) }
+-- ---- as the code rounds, by the size of the number
 
--- ---- whole numbers of 64 bits, as the code has them: z from 0 up by itself, and z below 0 as -1 - z
+-- a quotient of natural numbers, rounded up, is the library's `div_ceil`
+div_ceil_is : (n k : ℕ) → 0 < k → div_ceil n k ≡ (n + (k - 1)) / k
+div_ceil_is n k h = let t = div_ceil_times n k h in sym (div-eq_of_lt-le k (omega (arith, t.0, t.1)) (omega (arith, t.0, t.1)))
 
--- z, from 0 up, as the code divides it
-pub record Upward (z : ℤ) : Type 0 where
-  pub not_negative : T (non_neg z)
-  pub few : nat_abs z < 9223372036854775808
-  pub stands : (k q : ℕ) → IsUp (nat_abs z) k q → pos q ≡ round_up z k
-
--- a number from 0 up is so
-pub up_from_zero : (z : ℤ) → SFits w64 z → pos 0 ≤ℤ z → Upward z
+-- from 0 up the quotient of the size is rounded up
+pub up_from_zero : (z : ℤ) (k : ℕ) → 0 < k → pos 0 ≤ℤ z → pos (div_ceil (nat_abs z) k) ≡ round_up z k
 unfolding round_up
-up_from_zero (pos n) f h = record { not_negative = tt; few = f.sfits; stands = λ k q i. ap pos i.is }
-up_from_zero (negsuc n) f h = absurd h.le
+up_from_zero (pos n) k h g = ap pos (div_ceil_is n k h)
+up_from_zero (negsuc n) k h g = absurd g.le
 
-less_one : (n : ℕ) → negsuc 0 -ℤ negsuc n ≡ pos n
-less_one n = omega lin
-
--- y, which is -1 - z of a z below 0, as the code divides one more than it
-pub record Downward (z y : ℤ) : Type 0 where
-  pub fits : SFits w64 y
-  pub not_negative : T (non_neg y)
-  pub few : nat_abs y < 9223372036854775808
-  pub stands : (k : ℕ) → neg_ℤ (pos ((nat_abs y + 1) / k)) ≡ round_up z k
-
--- -1 - z of a number z below 0 is so
-pub up_below_zero : (z : ℤ) → SFits w64 z → z <ℤ pos 0 → Downward z (negsuc 0 -ℤ z)
+-- below 0 it is rounded down, and taken from 0
+pub up_below_zero : (z : ℤ) (k : ℕ) → z <ℤ pos 0 → pos 0 -ℤ pos (nat_abs z / k) ≡ round_up z k
 unfolding round_up
-up_below_zero (pos n) f h = absurd (omega lin)
-up_below_zero (negsuc n) f h =
-    let few : n < 9223372036854775808 = f.sfits in
-    rw (less_one n) (record { fits = omega lin; not_negative = tt; few = few; stands = λ k. ap (λ x. neg_ℤ (pos (x / k))) (omega arith) })
-
--- -q from one less than q
-pub record Minus (q : ℕ) (y : ℤ) : Type 0 where
-  pub fits : SFits w64 y
-  pub is : y ≡ neg_ℤ (pos q)
-
--- -1 less q - 1 is -q, and fits
-pub minus_is : (q : ℕ) → q ≤ 9223372036854775808 → 0 < q → Minus q (negsuc 0 -ℤ pos (q - 1))
-minus_is zero h some = absurd (omega arith)
-minus_is (suc q) h some =
-    let e : negsuc 0 -ℤ pos q ≡ negsuc q = omega (lin, negs (pos q)) in
-    let p : suc q - 1 ≡ q = omega arith in
-    rw (p, e) (record { fits = omega lin; is = refl })
+up_below_zero (pos n) k g = absurd (omega lin)
+up_below_zero (negsuc n) k g = omega (lin, minus (pos 0) (pos (suc n / k)), negs (pos (suc n / k)))
 
 -- ---- where a rounded quotient lies: on the same side of 0 as the number, and no further from 0
 
@@ -112,9 +76,13 @@ record Nearer (z q : ℤ) : Type 0 where
   pub up : above q ≤ above z
   pub down : below q ≤ below z
 
+-- a quotient rounded up is at most the number
+up_most : (n k : ℕ) → 0 < k → (n + (k - 1)) / k ≤ n
+up_most n k h = let l : (n + (k - 1)) / k < suc n = (div-lt_iff_lt-mul h).1 (omega (arith, le-mul_of_pos_right n h)) in omega arith
+
 up_nearer : (z : ℤ) (g : ℕ) → 0 < g → Nearer z (round_up z g)
 unfolding round_up
-up_nearer (pos n) g h = record { up = (up_is n g h).most; down = omega arith }
+up_nearer (pos n) g h = record { up = up_most n g h; down = omega arith }
 up_nearer (negsuc n) g h = let s = negs (pos (suc n / g)) in record { up = omega arith; down = omega (arith, div-le_self (suc n) g) }
 
 nearer_to : (z q b : ℤ) → pos 0 ≤ℤ b → z ≤ℤ b → Nearer z q → q ≤ℤ b

@@ -1,12 +1,15 @@
 -- A run of stores, `sets l i vs`: what stands in the run's places, that every other place keeps its value, and that runs which follow one
 -- another are one run. Rests on no other file.
-use mathlib.Core.Path.{◌≡◌, refl, ◌∙◌}
+use mathlib.Core.Path.{◌≡◌, refl, sym, ◌∙◌}
 use mathlib.Core.List.{List, [], ◌∷◌, ◌++◌}
 use Prim.Native.Nat.{ℕ, zero, suc, ◌+◌, ◌≤◌, ◌<◌}
 use native.Mathlib.Omega.{arith}
 use native.Mathlib.Nat.{add-zero}
 use lib.ListN.{length, get_or, set, length-set}
 use lib.Seq.{sets, get_or-set_same, get_or-set_other}
+use borrow.Rule.Slice.PartMut.{put_mid}
+use Rattle.std.proofs.Common.{append_assoc, drop-drop}
+use Rattle.std.proofs.lemmas.List.Edits.{sets-eq}
 
 module _ {A : Type 0} (d : A) where
   -- a place before the run
@@ -34,3 +37,7 @@ module _ {A : Type 0} (d : A) where
 pub stores_then : {A : Type 0} (a b l : List A) (i j : ℕ) → i + length a ≡ j → sets (sets l i a) j b ≡ sets l i (a ++ b)
 stores_then [] b l i j e = let k : j ≡ i = omega arith in rw k refl
 stores_then (x ∷ a) b l i j e = stores_then a b (set l i x) (suc i) j (omega arith)
+
+-- a part that was written over with as many members is that run
+pub part_is : {A : Type 0} (l vs : List A) (i k : ℕ) → length vs ≡ k → i + k ≤ length l → put_mid i k l vs ≡ sets l i vs
+part_is l vs i k e room = simp (sym e, drop-drop, append_assoc, sets-eq vs l i (omega arith))

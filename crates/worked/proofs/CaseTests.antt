@@ -14,7 +14,9 @@ use borrow.Author.Tests.{le-leb}
 use Rattle.whole.specs.Sums.{total}
 use Rattle.whole.proofs.Lin.{lin}
 use Rattle.paper.specs.Network.{Network}
-use Rattle.paper.specs.Rules.{Rule, Setup, Hold, Low, High, Exists, Holds, tail, head, amount, slack}
+use Rattle.paper.specs.declared.Rule.{Rule}
+use Rattle.paper.specs.declared.Rule.TheVariants.{Setup, Hold, Low, High}
+use Rattle.paper.specs.Rules.{Exists, Holds, tail, head, amount, slack}
 use Rattle.paper.specs.Chains.{All, Chain, Once, Loop, Listed}
 use Rattle.paper.specs.Schedule.{Schedule, Contradicts, setups, Answer, Refutes, Shown}
 use Rattle.paper.specs.File.{headed, counted, sized, ranged, registers, paths, register_ok, path_ok, network_of}

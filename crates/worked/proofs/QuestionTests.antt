@@ -8,9 +8,11 @@ use mathlib.Core.Bool.{Bool, true}
 use Prim.Native.Nat.{ℕ, zero, suc, ◌<◌}
 use native.Mathlib.Omega.{arith}
 use lib.IntN.{ℤ, pos}
-use Rattle.paper.specs.declared.Reply.{Reply}
+use Rattle.paper.specs.Numbers.{Reply}
 use Rattle.paper.specs.Network.{Network}
-use Rattle.paper.specs.Rules.{Rule, Setup, Hold, Low, High, kind, number, Exists}
+use Rattle.paper.specs.declared.Rule.{Rule}
+use Rattle.paper.specs.declared.Rule.TheVariants.{Setup, Hold, Low, High}
+use Rattle.paper.specs.Rules.{kind, number, Exists}
 use Rattle.paper.specs.File.{natural, within, network_of}
 use Rattle.paper.specs.Limits.{most_period, least_latency, most_latency}
 use Rattle.paper.specs.Table.{Given}

@@ -6,7 +6,7 @@ use mathlib.Core.List.{List, [], ◌∷◌}
 use lib.IntN.{pos, neg_ℤ}
 use lib.ListN.{length}
 use Rattle.whole.specs.Four.{word_at, signed_of, number_at, word_of, bytes_of, four}
-use Rattle.paper.specs.Rules.{Setup, Hold}
+use Rattle.paper.specs.declared.Rule.TheVariants.{Setup, Hold}
 use Rattle.paper.specs.Chains.{All}
 use Rattle.paper.specs.File.{marked, within, windowed, headed, counted, sized, ranged, register_ok, path_ok, network_of}
 use Rattle.worked.specs.Cases.{file_of, network_a, case_a, case_a4, case_a7, case_d, case_f}

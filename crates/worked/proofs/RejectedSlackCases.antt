@@ -1,5 +1,6 @@
 -- What must not be answered to a rule question is not: the table of `RejectedSlacks` meets the definitions. Each group of rows is a statement
 -- of its own, shown by computing its tests. Rests on `QuestionTests` and, for files that are refused, on `RejectionTests`.
+use Rattle.std.specs.Prelude.{Ok, Err}
 use mathlib.Core.Path.{◌≡◌, refl, ap}
 use mathlib.Core.List.{List, ◌++◌}
 use Prim.Native.Nat.{ℕ, ◌<◌}
@@ -7,8 +8,7 @@ use native.Mathlib.Omega.{arith}
 use lib.IntN.{ℤ, pos}
 use lib.ListN.{length}
 use Rattle.whole.specs.Four.{word_at, signed_of, number_at, word_of, bytes_of, four}
-use Rattle.paper.specs.declared.Reply.{Reply}
-use Rattle.paper.specs.declared.Reply.TheVariants as reply
+use Rattle.paper.specs.Numbers.{Reply}
 use Rattle.paper.specs.Chains.{All}
 use Rattle.paper.specs.File.{marked, within, windowed, headed, counted, sized, ranged, register_ok, path_ok, network_of}
 use Rattle.paper.specs.Table.{Given}
@@ -27,8 +27,8 @@ use Rattle.worked.proofs.QuestionTests.{not_in_range, given_10, given_untold, on
 
 -- the slack in a reply
 abbrev slack_in : Reply → ℤ
-slack_in (reply.Slack d) = d.0
-slack_in (reply.Refused x) = pos 0
+slack_in (Ok d) = d.0
+slack_in (Err x) = pos 0
 
 module _ (f : List ℕ) where
   -- no number but the right one answers

@@ -6,7 +6,7 @@ use mathlib.Core.List.{[], ◌∷◌, ◌++◌, map}
 use lib.IntN.{pos}
 use lib.ListN.{length}
 use Rattle.whole.specs.Four.{word_at, signed_of, number_at, word_of, bytes_of, four}
-use Rattle.paper.specs.Rules.{Setup, Hold, Low}
+use Rattle.paper.specs.declared.Rule.TheVariants.{Setup, Hold, Low}
 use Rattle.paper.specs.Chains.{All}
 use Rattle.paper.specs.File.{marked, within, windowed, headed, counted, sized, ranged, register_ok, path_ok, network_of}
 use Rattle.worked.specs.Cases.{Worked, file_of}

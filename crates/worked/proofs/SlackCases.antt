@@ -7,7 +7,9 @@ use Prim.Native.Nat.{ℕ}
 use lib.IntN.{ℤ, pos}
 use lib.ListN.{length}
 use Rattle.whole.specs.Four.{word_at, signed_of, number_at, word_of, bytes_of, four}
-use Rattle.paper.specs.Rules.{Rule, Setup, Hold, Low, High, kind, number, tail, head}
+use Rattle.paper.specs.declared.Rule.{Rule}
+use Rattle.paper.specs.declared.Rule.TheVariants.{Setup, Hold, Low, High}
+use Rattle.paper.specs.Rules.{kind, number, tail, head}
 use Rattle.paper.specs.Chains.{All}
 use Rattle.paper.specs.File.{marked, within, windowed, headed, counted, sized, ranged, register_ok, path_ok, network_of}
 use Rattle.paper.specs.Question.{Question, asked, FileAnswers, with_slack}

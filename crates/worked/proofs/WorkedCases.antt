@@ -5,7 +5,7 @@ use mathlib.Core.List.{[], ◌∷◌}
 use lib.IntN.{pos, neg_ℤ}
 use lib.ListN.{length}
 use Rattle.whole.specs.Four.{word_at, signed_of, number_at, word_of, bytes_of, four}
-use Rattle.paper.specs.Rules.{Setup, Hold}
+use Rattle.paper.specs.declared.Rule.TheVariants.{Setup, Hold}
 use Rattle.paper.specs.Chains.{All}
 use Rattle.paper.specs.File.{marked, within, windowed, headed, counted, sized, ranged, register_ok, path_ok, network_of}
 use Rattle.worked.specs.Cases.{Worked, file_of, network_a, cases, case_a, case_a2, case_a3, case_a4, case_a5, case_a6, case_a7, case_b, case_d, case_e, case_f}

@@ -3,7 +3,8 @@
 use Rattle.std.specs.Prelude.{◌≡◌, List, [], ◌∷◌, ◌++◌, ℕ, ◌≤◌, ℤ, pos, neg_ℤ, length, get_or}
 use Rattle.whole.specs.Four.{four}
 use Rattle.paper.specs.Network.{Network}
-use Rattle.paper.specs.Rules.{Rule, Setup, Hold, High}
+use Rattle.paper.specs.declared.Rule.{Rule}
+use Rattle.paper.specs.declared.Rule.TheVariants.{Setup, Hold, High}
 use Rattle.paper.specs.Schedule.{Answer, Shown, Refutes, setups}
 use Rattle.paper.specs.File.{network_of}
 use Rattle.paper.specs.Table.{Given}

@@ -5,7 +5,9 @@
 use Rattle.std.specs.Prelude.{List, [], ◌∷◌, ◌++◌, ℕ, suc, ◌+◌, ◌*◌, ◌≤◌, ◌<◌, ℤ, pos, neg_ℤ, length, get_or, take, drop}
 use Rattle.whole.specs.Four.{four}
 use Rattle.paper.specs.Network.{Network}
-use Rattle.paper.specs.Rules.{Rule, Setup, Hold, Low, High, Exists}
+use Rattle.paper.specs.declared.Rule.{Rule}
+use Rattle.paper.specs.declared.Rule.TheVariants.{Setup, Hold, Low, High}
+use Rattle.paper.specs.Rules.{Exists}
 use Rattle.paper.specs.Schedule.{Schedule, Answer, Refutes, Shown}
 use Rattle.paper.specs.File.{network_of}
 use Rattle.paper.specs.Table.{Given}

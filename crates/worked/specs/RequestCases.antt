@@ -3,7 +3,7 @@
 -- here. `Worked` and `WorkedSlack` say of a row what the definitions must say, and `proofs/RequestedCases.antt` shows it for the whole of each
 -- table.
 use Rattle.std.specs.Prelude.{List, [], ◌∷◌, ◌++◌, ℕ, pos}
-use Rattle.paper.specs.Rules.{Setup, Hold}
+use Rattle.paper.specs.declared.Rule.TheVariants.{Setup, Hold}
 use Rattle.worked.specs.Cases.{Fields, Described, answered, refused_8, refused_9, Case}
 use Rattle.worked.specs.Rejected.{minus}
 use Rattle.worked.specs.Slacks.{setup, hold, SlackCase, told}

@@ -2,7 +2,7 @@
 -- "so do the errors of 16.13 as what must be refused": a later request adds its rows here. `Rejected` and `SlackRejected` say of a row what
 -- the definitions must say, and `proofs/RequestedCases.antt` shows it for the whole of each table.
 use Rattle.std.specs.Prelude.{List, [], ◌∷◌, ◌++◌, pos}
-use Rattle.paper.specs.Rules.{Setup, Hold}
+use Rattle.paper.specs.declared.Rule.TheVariants.{Setup, Hold}
 use Rattle.worked.specs.Rejected.{Rejection, no_loop, until, unmet, unanswered, not_least, minus}
 use Rattle.worked.specs.Slacks.{setup, hold, asks}
 use Rattle.worked.specs.RejectedSlacks.{SlackRejection, wrong}

@@ -3,7 +3,7 @@
 -- numbers and not by their names in `Rules` and `Limits`, which the table holds to these numbers. `WorkedSlack` says of a row what the definitions
 -- must say, and `proofs/SlackCases.antt` shows it for the whole table.
 use Rattle.std.specs.Prelude.{◌≡◌, List, [], ◌∷◌, ◌++◌, ℕ, ℤ, pos}
-use Rattle.paper.specs.declared.Reply.{Reply}
+use Rattle.paper.specs.Numbers.{Reply}
 use Rattle.paper.specs.Question.{Question, asked, FileAnswers, with_slack}
 use Rattle.worked.specs.Cases.{Described, file_of, network_a, network_d, host_alone}
 use Rattle.worked.specs.Rejected.{A, minus}

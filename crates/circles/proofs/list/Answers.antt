@@ -1,25 +1,29 @@
--- `circles::list` meets its contract: behind the k places that are left stands the trail of the steps taken. Each place that the walk
--- reads is a register, and each pred an arrow, since the caller says so of every step on the way.
-use Prim.Native.Nat.{◌<◌}
-use native.Mathlib.Omega.{arith}
-use Rattle.circles.proofs.Rings.{listing_none, listing_below, listing_more}
+-- `circles::list` meets its contract: after k steps the ring has the arrows of those steps, the first one first. Each register that the walk
+-- reads has an arrow as its pred, since the caller says so of every step on the way.
+use Rattle.std.proofs.Common.{◌≡◌, ◌<◌, length, reverse, arith, ◌∙◌}
+use Rattle.std.specs.List.{refill}
+use Rattle.loops.specs.Graphs.{of}
+use Rattle.loops.specs.Model.{trail}
+use Rattle.circles.proofs.Rings.{refill_whole, listing_none, listing_more, listing_length, listing_turned}
 use Rattle.circles.proofs.list.Goals as goal
 
 pub loop-k-init : goal.loop-k-init
-loop-k-init c = listing_none _ _ _ _ _
+loop-k-init c = rw c.clear.ensures (listing_none _ _ _ c.requires.below)
 
-pub offset_bounds-preds-v : goal.offset_bounds-preds-v
-offset_bounds-preds-v c =
-    let stands_below : c.loop-k.v < c.args.n =
-    listing_below _ _ _ _ _ c.requires.follows.shape.sound c.requires.follows.below c.requires.arrows _ _ _ c.loop-k.invariant in
-    omega (arith, stands_below, c.requires.follows.shape.few)
-
-pub bounds-preds-v : goal.bounds-preds-v
-bounds-preds-v c =
-    let stands_below : c.loop-k.v < c.args.n =
-    listing_below _ _ _ _ _ c.requires.follows.shape.sound c.requires.follows.below c.requires.arrows _ _ _ c.loop-k.invariant in
-    omega (arith, stands_below, c.requires.follows.preds_long)
+pub push-requires : goal.push-requires
+push-requires c =
+    let long : length c.loop-k.ring.items ≡ c.loop-k.k = listing_length _ _ _ _ _ _ c.loop-k.invariant in
+    let room : length c.loop-k.ring.items < 256 = let k = c.loop-k-test.true in let few = c.requires.few in let most = c.args.preds.graph.shape.few in omega arith in
+    (omega arith, room)
 
 pub loop-k-preserved : goal.loop-k-preserved
 loop-k-preserved c =
-    listing_more _ _ _ _ _ c.requires.room _ _ _ c.loop-k-test.true c.loop-k.invariant
+    rw (c.step-v.ensures, c.push.ensures.items) (listing_more _ _ _ c.args.preds.graph.shape.sound _ _ _ _ c.requires c.loop-k-test.true c.loop-k.invariant)
+
+pub returns : goal.returns
+returns c =
+    let whole : c.loop-k.k ≡ c.args.cycle.steps = omega arith in
+    let back : reverse c.loop-k.ring.items ≡ trail (of c.args.preds.graph) c.args.preds.list.now c.loop-k.k c.args.cycle.start = listing_turned _ _ _ _ _ _ c.loop-k.invariant in
+    let filled : refill (length c.loop-k.ring.items) c.loop-k.ring.items c.reverse.new.self ≡ c.reverse.new.self =
+    let now = c.as_mut_slice.ensures.value in let len = c.reverse.ensures.len in refill_whole _ _ _ (rw now at len) in
+    filled ∙ c.reverse.ensures.after ∙ rw (c.as_mut_slice.ensures.value, ← whole) back

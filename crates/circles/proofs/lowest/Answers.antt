@@ -1,23 +1,19 @@
--- `circles::lowest` meets its contract: after k steps `low` is the lowest register that the walk met.
-use native.Mathlib.Omega.{arith}
-use Rattle.circles.proofs.Rings.{lowered_none, gone_below, gone_arrow, lowered_under, lowered_over}
+-- `circles::lowest` meets its contract: after k steps the walk stands k steps back, and `low` is the lowest register that it met.
+use Rattle.std.proofs.Common.{◌≡◌, ◌+◌, refl}
+use Rattle.loops.specs.Graphs.{of}
+use Rattle.loops.specs.Model.{back, lowest}
+use Rattle.circles.proofs.Rings.{back_more, lowest_more, unending_below}
 use Rattle.circles.proofs.lowest.Goals as goal
 
 pub loop-k-init : goal.loop-k-init
-loop-k-init c = lowered_none _ _ _
+unfolding back lowest
+loop-k-init c = record { stands = refl; is_lowest = refl }
 
-pub step-v-requires : goal.step-v-requires
-step-v-requires c =
-    let at = gone_below _ _ _ _ _ c.requires.follows.shape.sound c.requires.follows.below c.requires.arrows c.loop-k.invariant.gone in
-    let by = gone_arrow _ _ _ _ _ c.loop-k-test.true c.requires.arrows c.loop-k.invariant.gone in
-    (omega (arith, at, c.requires.follows.preds_long), omega (arith, by, c.requires.follows.shape.tails_long))
-
-pub loop-k-preserved-then-v-low : goal.loop-k-preserved-then-v-low
-loop-k-preserved-then-v-low c =
-    let h = c.if-v-low.true in
-    rw c.step-v.ensures (lowered_under _ _ _ _ _ _ c.loop-k-test.true (rw c.step-v.ensures at h) c.loop-k.invariant)
+pub step-v-requires-clause-register : goal.step-v-requires-clause-register
+step-v-requires-clause-register c = unending_below _ _ c.args.preds.graph.shape.sound _ _ _ c.requires c.loop-k.invariant.stands c.loop-k-test.true
 
 pub loop-k-preserved : goal.loop-k-preserved
 loop-k-preserved c =
-    let h = c.if-v-low.false in
-    rw c.step-v.ensures (lowered_over _ _ _ _ _ _ c.loop-k-test.true (rw c.step-v.ensures at h) c.loop-k.invariant)
+    let stands : c.step-v.result ≡ back (of c.args.preds.graph) c.args.preds.list.now (c.loop-k.k + 1) c.args.s =
+    rw (c.step-v.ensures, c.loop-k.invariant.stands) (back_more _ _ _ _) in
+    record { stands = stands; is_lowest = rw (c.min-low.ensures, stands, c.loop-k.invariant.is_lowest) (lowest_more _ _ _ _) }

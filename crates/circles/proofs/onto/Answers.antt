@@ -1,16 +1,15 @@
 -- `circles::onto` meets its contract: after k steps the walk stands k steps back.
-use native.Mathlib.Omega.{arith}
-use Rattle.circles.proofs.Rings.{gone_none, gone_below, gone_arrow, gone_more}
+use Rattle.std.proofs.Common.{refl}
+use Rattle.loops.specs.Model.{back}
+use Rattle.circles.proofs.Rings.{back_more, unending_below}
 use Rattle.circles.proofs.onto.Goals as goal
 
 pub loop-k-init : goal.loop-k-init
-loop-k-init c = gone_none _ _ _
+unfolding back
+loop-k-init c = refl
 
-pub step-v-requires : goal.step-v-requires
-step-v-requires c =
-    let at = gone_below _ _ _ _ _ c.requires.follows.shape.sound c.requires.follows.below c.requires.arrows c.loop-k.invariant in
-    let by = gone_arrow _ _ _ _ _ c.loop-k-test.true c.requires.arrows c.loop-k.invariant in
-    (omega (arith, at, c.requires.follows.preds_long), omega (arith, by, c.requires.follows.shape.tails_long))
+pub step-v-requires-clause-register : goal.step-v-requires-clause-register
+step-v-requires-clause-register c = unending_below _ _ c.args.preds.graph.shape.sound _ _ _ c.requires c.loop-k.invariant c.loop-k-test.true
 
 pub loop-k-preserved : goal.loop-k-preserved
-loop-k-preserved c = rw c.step-v.ensures (gone_more _ _ _ _ _ c.loop-k-test.true c.loop-k.invariant)
+loop-k-preserved c = rw (c.step-v.ensures, c.loop-k.invariant) (back_more _ _ _ _)

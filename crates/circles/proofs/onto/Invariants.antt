@@ -1,11 +1,8 @@
 -- `circles::onto` meets its contract: after k steps the walk stands k steps back.
-use Prim.Native.Nat.{◌-◌}
-use Rattle.loops.specs.Arrows.{arrows}
-use Rattle.circles.proofs.Rings.{Gone}
+use Rattle.std.proofs.Common.{◌≡◌}
+use Rattle.loops.specs.Graphs.{of}
+use Rattle.loops.specs.Model.{back}
 use Rattle.circles.proofs.onto.Given as goal
 
 abbrev pub invariant-loop-k : goal.invariant-loop-k
-invariant-loop-k l = Gone (arrows l.n l.count l.tail l.head l.amount) l.preds l.s l.k l.v
-
-abbrev pub decreases-loop-k : goal.decreases-loop-k
-decreases-loop-k l = l.n - l.k
+invariant-loop-k l = l.v ≡ back (of l.preds.graph) l.preds.list.now l.k l.s

@@ -5,8 +5,8 @@ use Rattle.paper.specs.File.{natural}
 use Rattle.climb.proofs.Goings.{Going}
 use Rattle.climb.proofs.climb.Given as goal
 
-abbrev pub invariant-loop-o : goal.invariant-loop-o
-invariant-loop-o l = Going l.h l.kind l.number l.tail l.head l.initial.amount l.amount l.base l.kept_row l.kept_preds l.passed l.a l.b l.preds l.initial.ring l.ring l.initial.out l.out l.initial.period l.period l.initial.kept l.kept
+abbrev pub invariant-loop-row : goal.invariant-loop-row
+invariant-loop-row l = Going l.h l.rules l.fn.arrows l.arrows l.base l.kept.row.now l.kept.preds.now l.kept.passed l.a l.b l.preds l.ring.items l.fn.out l.out l.period
 
-abbrev pub decreases-loop-o : goal.decreases-loop-o
-decreases-loop-o l = suc (natural l.h.ceiling) - natural l.period
+abbrev pub decreases-loop-row : goal.decreases-loop-row
+decreases-loop-row l = suc (natural l.h.ceiling) - natural l.period

@@ -1,4 +1,5 @@
 -- `listing::looped` meets its contract: the loop follows the line of the refusal.
+use Rattle.std.specs.Prelude.{Err}
 use mathlib.Core.Path.{◌≡◌}
 use native.Mathlib.Omega.{arith}
 use mir.Facts.{to_z-of_z}
@@ -12,6 +13,6 @@ returns c =
     let v = c.put_loop.ensures in
     let e = k_is in
     record {
-      written = looped_written _ _ _ _ c.args.o _ _ _ _ _ c.count-k.ensures (to_z-of_z c.ranges.ceiling) w.written v.written;
+      written = looped_written _ _ _ _ (Err c.args.e) _ _ _ _ _ c.count-k.ensures (to_z-of_z c.ranges.ceiling) w.written v.written;
       by = omega (arith, c.requires.counted.few_entries, w.by, v.by);
     }

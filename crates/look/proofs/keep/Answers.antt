@@ -1,9 +1,9 @@
--- `look::keep` meets its contract: what stands in the kept row is what the function that was called last writes.
+-- `look::keep` meets its contract: what stands in the kept row is the first row, or a copy of the row that rests.
 use Rattle.look.specs.Firsts.{anew, onward}
 use Rattle.look.proofs.keep.Goals as goal
 
-pub returns-then-pairs-gt-MANY : goal.returns-then-pairs-gt-MANY
-returns-then-pairs-gt-MANY c = anew c.first.ensures
+pub returns-then-rest-gt-MANY : goal.returns-then-rest-gt-MANY
+returns-then-rest-gt-MANY c = anew c.first.ensures
 
 pub returns : goal.returns
-returns c = onward c.copy.ensures c.copy_preds.ensures
+returns c = onward c.copy_from_slice.ensures.after c.copy_from_slice-2.ensures.after

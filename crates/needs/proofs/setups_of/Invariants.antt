@@ -1,10 +1,7 @@
--- `needs::setups_of` meets its contract: after j entries it has counted the setup rules of the first j.
-use Prim.Native.Nat.{◌-◌}
-use Rattle.needs.proofs.Counts.{Counted}
+-- `needs::setups_of` meets its contract. The loop's invariant: of the entries passed so many are those of setup rules.
+use Rattle.std.proofs.Common.{◌≡◌, ◌≤◌, take}
+use Rattle.needs.specs.Raising.{setups_at}
 use Rattle.needs.proofs.setups_of.Given as goal
 
-abbrev pub invariant-loop-j : goal.invariant-loop-j
-invariant-loop-j l = Counted l.kind l.ring l.entries l.j l.count
-
-abbrev pub decreases-loop-j : goal.decreases-loop-j
-decreases-loop-j l = l.entries - l.j
+abbrev pub invariant-loop-e : goal.invariant-loop-e
+invariant-loop-e l = record { most : l.count ≤ l.e-index; is : l.count ≡ setups_at l.rules (take l.e-index l.ring) }

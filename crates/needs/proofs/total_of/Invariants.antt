@@ -1,10 +1,6 @@
--- `needs::total_of` meets its contract: after j entries the sum is that of the first j.
-use Prim.Native.Nat.{◌-◌}
+-- `needs::total_of` meets its contract: after so many entries the sum is that of the first so many.
 use Rattle.needs.proofs.Sums.{Summed}
 use Rattle.needs.proofs.total_of.Given as goal
 
-abbrev pub invariant-loop-j : goal.invariant-loop-j
-invariant-loop-j l = Summed l.amount l.ring l.entries l.j l.sum
-
-abbrev pub decreases-loop-j : goal.decreases-loop-j
-decreases-loop-j l = l.entries - l.j
+abbrev pub invariant-loop-e : goal.invariant-loop-e
+invariant-loop-e l = Summed l.arrows l.ring l.e-index l.sum

@@ -1,19 +1,16 @@
--- `whole::within` meets its contract: the second test is run where the first holds, and else the answer is no.
+-- `whole::within` meets its contract: the library's order of two numbers is the paper's, at both ends.
+use Rattle.std.proofs.Common.{◌≡◌, arith, ℤ}
+use Rattle.std.proofs.lemmas.Int.{ints}
+use Rattle.std.specs.Ordering.{int_cmp, as_partial_cmp, partial_le}
+use Rattle.std.specs.Int.Signed.{le_z}
 use mir.Facts.{to_z-of_z}
 use Rattle.whole.specs.Within.{within}
-use Rattle.whole.proofs.Tests.{and_held, and_failed}
 use Rattle.whole.proofs.within.Goals as goal
 
-pub returns-then-low-z : goal.returns-then-low-z
-unfolding within
-returns-then-low-z c =
-    let f = c.ranges in
-    let t = rw (to_z-of_z f.low, to_z-of_z f.z) at c.if-low-z.true in
-    rw (to_z-of_z f.z, to_z-of_z f.high) (and_held _ _ t)
+-- at most, by the library's order of numbers
+le_is : (a b : ℤ) → partial_le (as_partial_cmp int_cmp) a b ≡ le_z a b
+le_is a b = grind (arith, ints)
 
-pub returns-else-low-z : goal.returns-else-low-z
+pub returns : goal.returns
 unfolding within
-returns-else-low-z c =
-    let f = c.ranges in
-    let t = rw (to_z-of_z f.low, to_z-of_z f.z) at c.if-low-z.false in
-    rw (to_z-of_z f.low, to_z-of_z f.z) (and_failed _ _ t)
+returns c = let k = c.new.ensures in grind (arith, to_z-of_z, le_is, k.start, k.end, k.exhausted)

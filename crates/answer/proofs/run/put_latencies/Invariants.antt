@@ -1,10 +1,6 @@
 -- `answer::run::put_latencies` meets its contract. The loop's invariant: the latencies of the registers passed stand in the output.
-use Prim.Native.Nat.{◌-◌}
 use Rattle.answer.proofs.Latencies.{Timed}
 use Rattle.answer.proofs.run.put_latencies.Given as goal
 
 abbrev pub invariant-loop-i : goal.invariant-loop-i
-invariant-loop-i l = Timed l.row l.n l.initial.out l.out l.i
-
-abbrev pub decreases-loop-i : goal.decreases-loop-i
-decreases-loop-i l = l.n - l.i
+invariant-loop-i l = Timed l.row l.initial.out l.out l.i

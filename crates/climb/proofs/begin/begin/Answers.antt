@@ -1,55 +1,27 @@
 -- `climb::begin::begin` meets its contract: a loop that contradicts itself at the floor shows why the climb may begin where it leads, or at the
 -- ceiling where that is lower.
-use mathlib.Core.Path.{◌≡◌}
+use borrow.Author.Rules.{rules}
 use mir.Syntax.{w32}
-use mir.Val.{SFits, to_z, of_z}
+use mir.Val.{SFits}
 use mir.Facts.{to_z-of_z}
-use Rattle.whole.proofs.Lin.{lin}
-use Rattle.climb.proofs.Attempts.{at_least, trial_shape}
-use Rattle.climb.proofs.Begins.{floor_trial, guessed_raisable, led_tries}
+use Rattle.climb.proofs.Attempts.{trial_weighable, trial_shape}
+use Rattle.climb.proofs.Begins.{floor_kept, floor_trial, guessed_raisable, led_tries}
 use Rattle.climb.proofs.begin.begin.Goals as goal
 
-pub guess-entries-requires : goal.guess-entries-requires
-guess-entries-requires c =
-    let floor_same : to_z w32 (of_z w32 c.args.h.floor) ≡ c.args.h.floor =
-    let e = c.requires.known.held.header.floor in
-    let b = c.requires.known.held.legal.ceiling_from in
-    let top = c.requires.known.held.legal.ceiling_to in
-    let f : SFits w32 c.args.h.floor = omega lin in
-    to_z-of_z f in
-    record {
-      shape = trial_shape (floor_trial c.requires.known floor_same c.args.ring.now) c.at_period.ensures c.all-all.ensures;
-      preds_long = c.requires.noted;
-      room = c.requires.loop;
-    }
+pub at_period-requires : goal.at_period-requires
+at_period-requires c = rw (floor_kept c.requires.known) (trial_weighable (floor_trial c.requires.known))
+
+pub invariant_of-graph : goal.invariant_of-graph
+invariant_of-graph c = record { shape = trial_shape (floor_trial c.requires.known) (rw (floor_kept c.requires.known) at c.at_period.ensures) c.all.ensures }
 
 pub lead-requires : goal.lead-requires
-lead-requires c =
-    let floor_same : to_z w32 (of_z w32 c.args.h.floor) ≡ c.args.h.floor =
-    let e = c.requires.known.held.header.floor in
-    let b = c.requires.known.held.legal.ceiling_from in
-    let top = c.requires.known.held.legal.ceiling_to in
-    let f : SFits w32 c.args.h.floor = omega lin in
-    to_z-of_z f in
-    guessed_raisable c.requires.known floor_same c.at_period.ensures c.all-all.ensures c.guess-entries.ensures
-    (at_least c.guess-entries.auto.ring c.requires.loop)
+lead-requires c = guessed_raisable c.requires.known (rw (floor_kept c.requires.known) at c.at_period.ensures) c.all.ensures c.guess.ensures
 
 pub returns : goal.returns
 returns c =
-    let floor_same : to_z w32 (of_z w32 c.args.h.floor) ≡ c.args.h.floor =
-    let e = c.requires.known.held.header.floor in
-    let b = c.requires.known.held.legal.ceiling_from in
-    let top = c.requires.known.held.legal.ceiling_to in
-    let f : SFits w32 c.args.h.floor = omega lin in
-    to_z-of_z f in
-    let ceiling_same : to_z w32 (of_z w32 c.args.h.ceiling) ≡ c.args.h.ceiling =
-    let e = c.requires.known.held.header.ceiling in
-    let top = c.requires.known.held.legal.ceiling_to in
-    let f : SFits w32 c.args.h.ceiling = omega lin in
-    to_z-of_z f in
+    let same : SFits w32 c.lead.result = search rules in
     record {
-      weighed = rw floor_same at c.at_period.ensures;
-      tries = λ M numbers w.
-          led_tries w floor_same c.at_period.ensures c.all-all.ensures c.guess-entries.ensures
-          (at_least c.guess-entries.auto.ring c.requires.loop) _ ceiling_same _ _ c.lead.ensures;
+      weighed = rw (floor_kept c.requires.known) at c.at_period.ensures;
+      tries = λ N known.
+          rw (to_z-of_z same) (led_tries known (rw (floor_kept known) at c.at_period.ensures) c.all.ensures c.guess.ensures c.lead.result c.lead.new.ring.items c.lead.ensures);
     }

@@ -1,12 +1,14 @@
--- `rounds::relax::go_on` meets its contract: every turn is given a row that it may begin from, and ends the relaxation or leaves such a row,
--- nearer to its bound, in the other slice.
-use Rattle.loops.specs.Arrows.{arrows}
+-- `rounds::relax::go_on` meets its contract: every turn is given a row that it may begin from, past the arrows below `start`, and ends the
+-- relaxation or leaves such a row, nearer to its bound, in the other slice. The ring is as it was at first.
+use Rattle.std.proofs.Common.{◌≡◌}
+use Rattle.loops.specs.Graphs.{of}
 use Rattle.loops.specs.Forest.{gap}
-use Rattle.rounds.proofs.Relaxes.{Relaxing}
+use Rattle.whole.specs.Between.{far}
+use Rattle.rounds.specs.Relaxation.{Relaxable}
 use Rattle.rounds.proofs.relax.go_on.Given as goal
 
-abbrev pub invariant-loop-a : goal.invariant-loop-a
-invariant-loop-a l = Relaxing (arrows l.n l.count l.tail l.head l.amount) l.initial.ring l.a l.b l.preds l.ring l.start
+abbrev pub invariant-loop-b : goal.invariant-loop-b
+invariant-loop-b l = record { starts : Relaxable (of l.graph) l.a l.b l.preds l.start; kept : l.ring.items ≡ l.initial.ring.items }
 
-abbrev pub decreases-loop-a : goal.decreases-loop-a
-decreases-loop-a l = gap (arrows l.n l.count l.tail l.head l.amount) 16777216 l.a
+abbrev pub decreases-loop-b : goal.decreases-loop-b
+decreases-loop-b l = gap (of l.graph) far l.a

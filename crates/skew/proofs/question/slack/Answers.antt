@@ -1,200 +1,83 @@
--- `skew::question::slack` meets its contract: each way through the match takes the amount of the rule of its kind, from records that were
--- read, and answers by how much its arrow is met.
-use mathlib.Core.Path.{◌≡◌, ◌∙◌, ap₂}
-use Prim.Native.Nat.{ℕ}
-use lib.IntN.{nat_abs, ◌-ℤ◌}
-use borrow.Author.Rules.{rules}
-use Rattle.whole.proofs.Lin.{lin}
-use Rattle.paper.specs.Network.{Network}
-use Rattle.paper.specs.Rules.{Setup, Hold, Low, High, base, amount}
-use Rattle.paper.specs.File.{natural, network_of}
-use Rattle.paper.specs.Question.{Question, asked, Asked}
-use Rattle.network.proofs.Ranges.{PathRanges, path_ranges, register_ranges}
-use Rattle.rules.proofs.Ranges.{small_register, small_ends}
-use Rattle.skew.proofs.Limits.{read, period_is, tail_small, head_small, amount_is_small, period_fits}
-use Rattle.skew.proofs.Named.{matched, cast_is, named, named_last, asked_slack}
+-- `skew::question::slack` meets its contract: each way through the match takes the amount of the rule from records that were read, and answers
+-- by how much its arrow is met.
+use mathlib.Core.Path.{◌∙◌}
+use Rattle.paper.specs.declared.Rule.TheVariants.{Setup, Hold, Low, High}
+use Rattle.paper.specs.File.{network_of}
+use Rattle.skew.proofs.Limits.{numbers_in, arrow_small, period_fits, arrow_slack, as_cast, register_small, receiver_there, ends_small, amount_of_path, setup_amount}
 use Rattle.skew.proofs.question.slack.Goals as goal
+
+-- ---- setup
 
 pub register-receiver-requires : goal.register-receiver-requires
 register-receiver-requires c =
-    let k : ℕ = nat_abs (read c.args.number) in
-    let net : Network = network_of c.args.file.now in
-    let at : Question = asked c.args.period.0 c.args.kind c.args.number c.args.tail.0 c.args.head.0 in
-    let is_setup : Asked net at (Setup k) =
-    named c.requires (Setup k) (matched c.ranges.kind c.in-0.in-0-own.keys1) (cast_is c.ranges.number) in
-    let road_ranges : PathRanges c.args.n c.path-road.result =
-    path_ranges c.args.file.now c.args.n k c.path-road.result c.requires.accepted c.requires.registers is_setup.exists c.path-road.ensures in
-    let p = c.requires in (p.accepted, rw p.registers at road_ranges.to)
+    let there = as_cast c.requires.there Setup c.in-Setup.is (c.from.ensures ∙ c.get.ensures) in
+    (there.accepted, receiver_there _ there.accepted there.exists c.path-road.ensures)
 
 pub setup-requires : goal.setup-requires
 setup-requires c =
-    let k : ℕ = nat_abs (read c.args.number) in
-    let net : Network = network_of c.args.file.now in
-    let at : Question = asked c.args.period.0 c.args.kind c.args.number c.args.tail.0 c.args.head.0 in
-    let is_setup : Asked net at (Setup k) =
-    named c.requires (Setup k) (matched c.ranges.kind c.in-0.in-0-own.keys1) (cast_is c.ranges.number) in
-    let road_ranges : PathRanges c.args.n c.path-road.result =
-    path_ranges c.args.file.now c.args.n k c.path-road.result c.requires.accepted c.requires.registers is_setup.exists c.path-road.ensures in
-    let r = road_ranges in
-    small_ends r (register_ranges c.args.file.now _ _ c.requires.accepted (rw c.requires.registers at r.to) c.register-receiver.ensures)
+    let there = as_cast c.requires.there Setup c.in-Setup.is (c.from.ensures ∙ c.get.ensures) in
+    ends_small _ there.accepted there.exists c.path-road.ensures c.register-receiver.ensures
 
 pub setup_at-amount-requires : goal.setup_at-amount-requires
 setup_at-amount-requires c =
-    let k : ℕ = nat_abs (read c.args.number) in
-    let net : Network = network_of c.args.file.now in
-    let at : Question = asked c.args.period.0 c.args.kind c.args.number c.args.tail.0 c.args.head.0 in
-    let is_setup : Asked net at (Setup k) =
-    named c.requires (Setup k) (matched c.ranges.kind c.in-0.in-0-own.keys1) (cast_is c.ranges.number) in
-    let setup_base : c.setup.result.0 ≡ base net (Setup k) =
-    let road = c.path-road.ensures in
-    c.setup.ensures net k road (rw road.to at c.register-receiver.ensures) in
-    period_fits c.requires k is_setup setup_base
+    let there = as_cast c.requires.there Setup c.in-Setup.is (c.from.ensures ∙ c.get.ensures) in
+    let e = amount_of_path _ there.accepted there.exists c.path-road.ensures c.register-receiver.ensures Setup c.setup.ensures in
+    period_fits there _ _ _ c.requires.in_range e
 
 pub slack-requires : goal.slack-requires
 slack-requires c =
-    let k : ℕ = nat_abs (read c.args.number) in
-    let net : Network = network_of c.args.file.now in
-    let at : Question = asked c.args.period.0 c.args.kind c.args.number c.args.tail.0 c.args.head.0 in
-    let is_setup : Asked net at (Setup k) =
-    named c.requires (Setup k) (matched c.ranges.kind c.in-0.in-0-own.keys1) (cast_is c.ranges.number) in
-    let P : ℕ = natural c.args.period.0 in
-    let setup_base : c.setup.result.0 ≡ base net (Setup k) =
-    let road = c.path-road.ensures in
-    c.setup.ensures net k road (rw road.to at c.register-receiver.ensures) in
-    let setup_amount : c.setup_at-amount.result.0 ≡ amount net P (Setup k) =
-    c.setup_at-amount.ensures ∙ ap₂ ◌-ℤ◌ setup_base (period_is c.requires.in_range.period_within) in
-    let p = c.requires in
-    let t = tail_small p in
-    let h = head_small p in
-    record {
-      of_amount = amount_is_small p (Setup k) is_setup setup_amount;
-      at_tail = search rules;
-      at_head = search rules;
-    }
+    let there = as_cast c.requires.there Setup c.in-Setup.is (c.from.ensures ∙ c.get.ensures) in
+    let period = (numbers_in c.requires.in_range).period_within in
+    let e = setup_amount _ there.accepted there.exists c.path-road.ensures c.register-receiver.ensures _ period c.setup.ensures c.setup_at-amount.ensures in
+    arrow_small there _ _ _ c.requires.in_range e
 
-pub register-receiver-requires-in-1 : goal.register-receiver-requires-in-1
-register-receiver-requires-in-1 c =
-    let k : ℕ = nat_abs (read c.args.number) in
-    let net : Network = network_of c.args.file.now in
-    let at : Question = asked c.args.period.0 c.args.kind c.args.number c.args.tail.0 c.args.head.0 in
-    let is_hold : Asked net at (Hold k) =
-    named c.requires (Hold k) (matched c.ranges.kind c.in-1.in-1-own.keys2) (cast_is c.ranges.number) in
-    let road_ranges_2 : PathRanges c.args.n c.path-road-in-1.result =
-    path_ranges c.args.file.now c.args.n k c.path-road-in-1.result c.requires.accepted c.requires.registers is_hold.exists c.path-road-in-1.ensures in
-    let p = c.requires in (p.accepted, rw p.registers at road_ranges_2.to)
+pub returns-in-Setup : goal.returns-in-Setup
+returns-in-Setup c =
+    let there = as_cast c.requires.there Setup c.in-Setup.is (c.from.ensures ∙ c.get.ensures) in
+    let period = (numbers_in c.requires.in_range).period_within in
+    let e = setup_amount _ there.accepted there.exists c.path-road.ensures c.register-receiver.ensures _ period c.setup.ensures c.setup_at-amount.ensures in
+    rw (c.in-Setup.is, ← (c.from.ensures ∙ c.get.ensures)) (arrow_slack (network_of c.args.file.now) c.args.period.0 _ _ (Setup c.from.result) e c.slack.ensures)
+
+-- ---- hold
+
+pub register-receiver-requires-in-Hold : goal.register-receiver-requires-in-Hold
+register-receiver-requires-in-Hold c =
+    let there = as_cast c.requires.there Hold c.in-Hold.is (c.from-in-Hold.ensures ∙ c.get-in-Hold.ensures) in
+    (there.accepted, receiver_there _ there.accepted there.exists c.path-road-in-Hold.ensures)
 
 pub hold-requires : goal.hold-requires
 hold-requires c =
-    let k : ℕ = nat_abs (read c.args.number) in
-    let net : Network = network_of c.args.file.now in
-    let at : Question = asked c.args.period.0 c.args.kind c.args.number c.args.tail.0 c.args.head.0 in
-    let is_hold : Asked net at (Hold k) =
-    named c.requires (Hold k) (matched c.ranges.kind c.in-1.in-1-own.keys2) (cast_is c.ranges.number) in
-    let road_ranges_2 : PathRanges c.args.n c.path-road-in-1.result =
-    path_ranges c.args.file.now c.args.n k c.path-road-in-1.result c.requires.accepted c.requires.registers is_hold.exists c.path-road-in-1.ensures in
-    let r = road_ranges_2 in
-    small_ends r (register_ranges c.args.file.now _ _ c.requires.accepted (rw c.requires.registers at r.to) c.register-receiver-in-1.ensures)
+    let there = as_cast c.requires.there Hold c.in-Hold.is (c.from-in-Hold.ensures ∙ c.get-in-Hold.ensures) in
+    ends_small _ there.accepted there.exists c.path-road-in-Hold.ensures c.register-receiver-in-Hold.ensures
 
-pub slack-requires-in-1 : goal.slack-requires-in-1
-slack-requires-in-1 c =
-    let k : ℕ = nat_abs (read c.args.number) in
-    let net : Network = network_of c.args.file.now in
-    let at : Question = asked c.args.period.0 c.args.kind c.args.number c.args.tail.0 c.args.head.0 in
-    let is_hold : Asked net at (Hold k) =
-    named c.requires (Hold k) (matched c.ranges.kind c.in-1.in-1-own.keys2) (cast_is c.ranges.number) in
-    let P : ℕ = natural c.args.period.0 in
-    let hold_amount : c.hold.result.0 ≡ amount net P (Hold k) =
-    let road = c.path-road-in-1.ensures in
-    c.hold.ensures net k road (rw road.to at c.register-receiver-in-1.ensures) in
-    let p = c.requires in
-    let t = tail_small p in
-    let h = head_small p in
-    record {
-      of_amount = amount_is_small p (Hold k) is_hold hold_amount;
-      at_tail = search rules;
-      at_head = search rules;
-    }
+pub slack-requires-in-Hold : goal.slack-requires-in-Hold
+slack-requires-in-Hold c =
+    let there = as_cast c.requires.there Hold c.in-Hold.is (c.from-in-Hold.ensures ∙ c.get-in-Hold.ensures) in
+    let e = amount_of_path _ there.accepted there.exists c.path-road-in-Hold.ensures c.register-receiver-in-Hold.ensures Hold c.hold.ensures in
+    arrow_small there _ _ _ c.requires.in_range e
+
+pub returns-in-Hold : goal.returns-in-Hold
+returns-in-Hold c =
+    let there = as_cast c.requires.there Hold c.in-Hold.is (c.from-in-Hold.ensures ∙ c.get-in-Hold.ensures) in
+    let e = amount_of_path _ there.accepted there.exists c.path-road-in-Hold.ensures c.register-receiver-in-Hold.ensures Hold c.hold.ensures in
+    rw (c.in-Hold.is, ← (c.from-in-Hold.ensures ∙ c.get-in-Hold.ensures)) (arrow_slack (network_of c.args.file.now) c.args.period.0 _ _ (Hold c.from-in-Hold.result) e c.slack-in-Hold.ensures)
+
+-- ---- low and high
 
 pub low-requires : goal.low-requires
 low-requires c =
-    let k : ℕ = nat_abs (read c.args.number) in
-    let net : Network = network_of c.args.file.now in
-    let at : Question = asked c.args.period.0 c.args.kind c.args.number c.args.tail.0 c.args.head.0 in
-    let is_low : Asked net at (Low k) =
-    named c.requires (Low k) (matched c.ranges.kind c.in-2.in-2-own.keys3) (cast_is c.ranges.number) in
-    small_register (register_ranges c.args.file.now k _ c.requires.accepted is_low.exists.1 c.register.ensures)
+    let there = as_cast c.requires.there Low c.in-Low.is (c.from-in-Low.ensures ∙ c.get-in-Low.ensures) in
+    register_small _ _ there.accepted there.exists.1 c.register-record.ensures
 
-pub slack-requires-in-2 : goal.slack-requires-in-2
-slack-requires-in-2 c =
-    let k : ℕ = nat_abs (read c.args.number) in
-    let net : Network = network_of c.args.file.now in
-    let at : Question = asked c.args.period.0 c.args.kind c.args.number c.args.tail.0 c.args.head.0 in
-    let is_low : Asked net at (Low k) =
-    named c.requires (Low k) (matched c.ranges.kind c.in-2.in-2-own.keys3) (cast_is c.ranges.number) in
-    let P : ℕ = natural c.args.period.0 in
-    let low_amount : c.low.result.0 ≡ amount net P (Low k) = c.low.ensures net k c.register.ensures in
-    let p = c.requires in
-    let t = tail_small p in
-    let h = head_small p in
-    record {
-      of_amount = amount_is_small p (Low k) is_low low_amount;
-      at_tail = record { from = omega lin; to = omega lin };
-      at_head = search rules;
-    }
+pub slack-requires-in-Low : goal.slack-requires-in-Low
+slack-requires-in-Low c =
+    arrow_small (as_cast c.requires.there Low c.in-Low.is (c.from-in-Low.ensures ∙ c.get-in-Low.ensures)) _ _ _ c.requires.in_range (c.low.ensures _ _ c.register-record.ensures)
 
 pub high-requires : goal.high-requires
 high-requires c =
-    let k : ℕ = nat_abs (read c.args.number) in
-    let net : Network = network_of c.args.file.now in
-    let at : Question = asked c.args.period.0 c.args.kind c.args.number c.args.tail.0 c.args.head.0 in
-    let is_high : Asked net at (High k) =
-    let n = c.in_default.in_default-own.rest in
-    named c.requires (High k) (named_last c.requires n.0.0.1 n.0.1 n.1) (cast_is c.ranges.number) in
-    small_register (register_ranges c.args.file.now k _ c.requires.accepted is_high.exists.1 c.register-in_default.ensures)
+    let there = as_cast c.requires.there High c.in-High.is (c.from-in-High.ensures ∙ c.get-in-High.ensures) in
+    register_small _ _ there.accepted there.exists.1 c.register-record-in-High.ensures
 
-pub slack-requires-in_default : goal.slack-requires-in_default
-slack-requires-in_default c =
-    let k : ℕ = nat_abs (read c.args.number) in
-    let net : Network = network_of c.args.file.now in
-    let at : Question = asked c.args.period.0 c.args.kind c.args.number c.args.tail.0 c.args.head.0 in
-    let is_high : Asked net at (High k) =
-    let n = c.in_default.in_default-own.rest in
-    named c.requires (High k) (named_last c.requires n.0.0.1 n.0.1 n.1) (cast_is c.ranges.number) in
-    let P : ℕ = natural c.args.period.0 in
-    let high_amount : c.high.result.0 ≡ amount net P (High k) = c.high.ensures net k c.register-in_default.ensures in
-    let p = c.requires in
-    let t = tail_small p in
-    let h = head_small p in
-    record {
-      of_amount = amount_is_small p (High k) is_high high_amount;
-      at_tail = search rules;
-      at_head = record { from = omega lin; to = omega lin };
-    }
-
-pub returns-in-0 : goal.returns-in-0
-returns-in-0 c =
-    let k : ℕ = nat_abs (read c.args.number) in
-    let net : Network = network_of c.args.file.now in
-    let at : Question = asked c.args.period.0 c.args.kind c.args.number c.args.tail.0 c.args.head.0 in
-    let is_setup : Asked net at (Setup k) =
-    named c.requires (Setup k) (matched c.ranges.kind c.in-0.in-0-own.keys1) (cast_is c.ranges.number) in
-    let P : ℕ = natural c.args.period.0 in
-    let setup_base : c.setup.result.0 ≡ base net (Setup k) =
-    let road = c.path-road.ensures in
-    c.setup.ensures net k road (rw road.to at c.register-receiver.ensures) in
-    let setup_amount : c.setup_at-amount.result.0 ≡ amount net P (Setup k) =
-    c.setup_at-amount.ensures ∙ ap₂ ◌-ℤ◌ setup_base (period_is c.requires.in_range.period_within) in
-    asked_slack (Setup k) is_setup setup_amount c.slack.ensures
-
-pub returns-in-1 : goal.returns-in-1
-returns-in-1 c =
-    let k : ℕ = nat_abs (read c.args.number) in
-    let net : Network = network_of c.args.file.now in
-    let at : Question = asked c.args.period.0 c.args.kind c.args.number c.args.tail.0 c.args.head.0 in
-    let is_hold : Asked net at (Hold k) =
-    named c.requires (Hold k) (matched c.ranges.kind c.in-1.in-1-own.keys2) (cast_is c.ranges.number) in
-    let P : ℕ = natural c.args.period.0 in
-    let hold_amount : c.hold.result.0 ≡ amount net P (Hold k) =
-    let road = c.path-road-in-1.ensures in
-    c.hold.ensures net k road (rw road.to at c.register-receiver-in-1.ensures) in
-    asked_slack (Hold k) is_hold hold_amount c.slack-in-1.ensures
+pub slack-requires-in-High : goal.slack-requires-in-High
+slack-requires-in-High c =
+    arrow_small (as_cast c.requires.there High c.in-High.is (c.from-in-High.ensures ∙ c.get-in-High.ensures)) _ _ _ c.requires.in_range (c.high.ensures _ _ c.register-record-in-High.ensures)

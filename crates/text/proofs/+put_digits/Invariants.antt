@@ -1,5 +1,0 @@
--- `text::put_digits`, which calls itself: the measure is the number, whose tenth part is less.
-use Rattle.text.proofs.+put_digits.Given as goal
-
-abbrev pub decreases-put_digits : goal.decreases-put_digits
-decreases-put_digits l = l.n
