@@ -95,6 +95,11 @@ class Library(unittest.TestCase):
         # Room for what a program's own functions and thread-local data take.
         self.assertLess(thread + 32 * 1024, recommended)
 
+    def test_it_needs_two_functions_from_outside(self):
+        """A caller without a C library brings these two (docs/DECISIONS.md, Memory)."""
+        listed = subprocess.run(["nm", "-u", ARCHIVE], capture_output=True, text=True, check=True).stdout
+        self.assertEqual({"memcpy", "memset"}, set(re.findall(r" U (\w+)", listed)))
+
     def test_no_bytes_may_be_lent(self):
         self.assertEqual(self.told("empty", ROOT / "examples/a.net"), "1 7 1 1 1\n")
 

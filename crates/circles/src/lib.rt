@@ -112,8 +112,9 @@ fn list(preds: Preds, cycle: Cycle, ring: &mut ArrayVec<u16, MOST_REGISTERS>)
     let mut v = cycle.start;
     // After k steps the ring has their arrows, the first one first (`RingListing`).
     for k in 0..cycle.steps {
-        ring.push(preds.list[v]);
-        v = step(preds, v);
+        let e = preds.list[v];
+        ring.push(e);
+        v = usize::from(preds.graph.arrows[usize::from(e)].tail);
     }
     ring.as_mut_slice().reverse();
 }

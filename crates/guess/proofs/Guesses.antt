@@ -18,15 +18,13 @@ use Rattle.circles.specs.Circle.{ShowsCircle}
 use Rattle.needs.specs.Raising.{Places, sum_at}
 use Rattle.guess.specs.Guessing.{Chosen, Guessed}
 
--- preds among which the walk back from the last register does not come to a register without one, and the circle on which it ends, as the ring
-module _ (Γ : Arrows) (shape : Shape Γ) (preds : List ℕ) (stray : rooted Γ preds Γ.registers (Γ.registers - 1) ≡ false)
-    (ring : List ℕ) (found : ShowsCircle Γ preds (Γ.registers - 1) ring) where
-  abbrev s : ℕ
-  s = Γ.registers - 1
+-- there is a last register
+pub last_below : (Γ : Arrows) → Shape Γ → Γ.registers - 1 < Γ.registers
+last_below Γ shape = let some = shape.sound.some in omega arith
 
-  below : s < Γ.registers
-  below = let some = shape.sound.some in omega arith
-
+-- preds among which the walk back from s does not come to a register without one, and the circle on which it ends, as the ring
+module _ (Γ : Arrows) (shape : Shape Γ) (preds : List ℕ) (s : ℕ) (below : s < Γ.registers) (stray : rooted Γ preds Γ.registers s ≡ false)
+    (ring : List ℕ) (found : ShowsCircle Γ preds s ring) where
   exist : All (λ e. e < Γ.count) ring
   exist = let f = circle_found Γ preds shape.sound s below stray in rw found.shows (circle_exist Γ preds _ _ f.circle)
 

@@ -29,7 +29,7 @@ use Rattle.loops.proofs.Families.{fixed_scheduled, fixed_refutes, always_never}
 use Rattle.loops.proofs.Rules.{rules_lawful, always_rules, never_rules}
 use Rattle.network.specs.declared.Header.{Header}
 use Rattle.network.specs.Records.{IsHeader}
-use Rattle.rounds.specs.Relaxation.{Circled}
+use Rattle.rounds.specs.Relaxation.{ShowsLoop}
 use Rattle.look.specs.Looking.{Lookable, Resumable}
 use Rattle.arrows.specs.Filled.{Filled}
 use Rattle.arrows.proofs.Laid.{filled_fixed, first_count, fixed_shape, fixed_highs, fixed_lows}
@@ -93,10 +93,9 @@ module _ {N : Network} {h : Header} {rules : List Rule} {arrows : List Arrow} {b
       record { held = held; some = (f.0, (x, f.1)) }
 
   -- a loop of these rules contradicts itself at every period
-  module _ {ring : List ℕ} (r : Circled Δ ring) where
+  module _ {ring : List ℕ} (s : ShowsLoop Δ ring) where
     seen_always : Always (family.rules N) (map (named rules) ring)
     seen_always =
-        let s = r.shows in
         fixed_refutes (family.rules N) (rules_lawful N) (map (named rules) ring)
         (laid_contradicts (fixed_graph (family.rules N)) (named rules) (amount N 0) Δ names lays ring s.contradicts)
         (laid_listed (fixed_graph (family.rules N)) (named rules) (amount N 0) Δ names lays ring s.contradicts s.listed)
@@ -110,12 +109,11 @@ module _ {N : Network} {h : Header} {rules : List Rule} {arrows : List Arrow} {b
         )
 
     -- it can be written out
-    pub seen_nameable : Nameable rules ring
-    seen_nameable =
+    pub seen_nameable : length ring ≤ Δ.registers → Nameable rules ring
+    seen_nameable short =
         let e = held.header.registers in
         let g = held.header.paths in
-        let s = r.short in
-        held_nameable held ring (omega arith) (all_map (λ e b. let m = whole in let f = stands in omega arith) ring r.shows.contradicts.exist)
+        held_nameable held ring (omega arith) (all_map (λ e b. let m = whole in let f = stands in omega arith) ring s.contradicts.exist)
 
   -- the climb has what it asks for
   pub seen_climbable : {kept : List ℤ} {preds : List ℕ} {passed : ℕ} → ((x : ℕ → ℤ) × Schedule Δ x) × Resumable Δ kept preds passed → {a b : List ℤ} {p out : List ℕ}

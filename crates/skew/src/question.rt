@@ -1,10 +1,11 @@
 // The rule question: by how much a rule of a file's network is met by the latencies at its arrow's two ends. It is told as a length of time,
 // below 0 where the rule is broken.
-ghost use Rattle.std.specs.Prelude.{◌≡◌, ◌≤◌, true};
-ghost use Rattle.paper.specs.File.{network_of};
+ghost use Rattle.std.specs.Prelude.{◌≡◌, ◌≤◌, true, IfSome};
+ghost use Rattle.paper.specs.File.{natural, network_of};
 ghost use Rattle.paper.specs.Limits.{most_registers, most_paths};
 ghost use Rattle.paper.specs.Refusals.{Accepted};
 ghost use Rattle.paper.specs.Question.{asked, FileAnswers};
+ghost use Rattle.loops.specs.Names.{rule_of};
 ghost use Rattle.skew.specs.Slack.{numbers_within, TellsRule, Askable, IsSlack};
 
 use network::{Header, read};
@@ -39,10 +40,10 @@ fn reply(
     ensures { FileAnswers file.now (asked period kind number tail head) result }
 {
     let h = read::header(file);
-    let rule = rule(h, kind, number).ok_or(Refusal::Question)?;
     if !in_range(period, tail, head) {
         return Err(Refusal::Question);
     }
+    let rule = rule(h, kind, number).ok_or(Refusal::Question)?;
     Ok(slack(
         file,
         h.registers,
@@ -64,9 +65,11 @@ fn in_range(period: i32, tail: i32, head: i32) -> bool
 }
 
 // The rule of this kind and number, where the network has one. RULES 2.5: "The host has no low rule and no high rule."
+#[tactic(auto, unfolding(loops::specs::Names::rule_of))]
 fn rule(h: Header, kind: i32, number: i32) -> Option<Rule>
     requires { (h.registers ≤ most_registers) × (h.paths ≤ most_paths) }
-    ensures { TellsRule h.registers h.paths kind number result }
+    ensures tells { TellsRule h.registers h.paths kind number result }
+    ensures named { IfSome result (λ r. r ≡ rule_of (natural kind) (natural number)) }
 {
     let number = u16::try_from(number).ok()?;
     let i = usize::from(number);

@@ -4,7 +4,10 @@ use Prim.Native.Nat.{ℕ, zero, suc, ◌+◌, ◌-◌, ◌*◌, ◌/◌, ◌≤�
 use native.Mathlib.Omega.{arith}
 use native.Mathlib.Nat.{div-add-mod', mod-lt, div-lt_iff_lt-mul, le-div_iff_mul-le, div-le_self, add-div_right, div-eq_of_lt-le, le-mul_of_pos_right}
 use lib.IntN.{ℤ, pos, negsuc, neg_ℤ, nat_abs, ◌*ℤ◌, ◌-ℤ◌}
-use lib.Signed.{◌≤ℤ◌, ◌<ℤ◌}
+use lib.Signed.{◌≤ℤ◌, ◌<ℤ◌, non_neg}
+use lib.Dec.{T}
+use mir.Syntax.{w64}
+use mir.Val.{SFits}
 use Rattle.std.proofs.lemmas.Grind.{div_ceil_times}
 use Rattle.std.specs.Int.{div_ceil}
 use Rattle.whole.specs.Rounding.{round_up, IsUp}
@@ -65,10 +68,30 @@ up_from_zero (pos n) k h g = ap pos (div_ceil_is n k h)
 up_from_zero (negsuc n) k h g = absurd g.le
 
 -- below 0 it is rounded down, and taken from 0
-pub up_below_zero : (z : ℤ) (k : ℕ) → z <ℤ pos 0 → pos 0 -ℤ pos (nat_abs z / k) ≡ round_up z k
+pub up_by_size : (z : ℤ) (k : ℕ) → z <ℤ pos 0 → pos 0 -ℤ pos (nat_abs z / k) ≡ round_up z k
 unfolding round_up
-up_below_zero (pos n) k g = absurd (omega lin)
-up_below_zero (negsuc n) k g = omega (lin, minus (pos 0) (pos (suc n / k)), negs (pos (suc n / k)))
+up_by_size (pos n) k g = absurd (omega lin)
+up_by_size (negsuc n) k g = omega (lin, minus (pos 0) (pos (suc n / k)), negs (pos (suc n / k)))
+
+-- ---- and with no number that 64 bits lack: z below 0 as -1 - z
+
+less_one : (n : ℕ) → negsuc 0 -ℤ negsuc n ≡ pos n
+less_one n = omega lin
+
+-- y, which is -1 - z of a z below 0: one more than it is divided
+pub record Downward (z y : ℤ) : Type 0 where
+  pub fits : SFits w64 y
+  pub not_negative : T (non_neg y)
+  pub few : nat_abs y < 9223372036854775808
+  pub stands : (k : ℕ) → neg_ℤ (pos ((nat_abs y + 1) / k)) ≡ round_up z k
+
+-- -1 - z of a number z below 0 is so
+pub up_below_zero : (z : ℤ) → SFits w64 z → z <ℤ pos 0 → Downward z (negsuc 0 -ℤ z)
+unfolding round_up
+up_below_zero (pos n) f h = absurd (omega lin)
+up_below_zero (negsuc n) f h =
+    let few : n < 9223372036854775808 = f.sfits in
+    rw (less_one n) (record { fits = omega lin; not_negative = tt; few = few; stands = λ k. ap (λ x. neg_ℤ (pos (x / k))) (omega arith) })
 
 -- ---- where a rounded quotient lies: on the same side of 0 as the number, and no further from 0
 

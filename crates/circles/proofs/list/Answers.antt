@@ -1,9 +1,9 @@
 -- `circles::list` meets its contract: after k steps the ring has the arrows of those steps, the first one first. Each register that the walk
 -- reads has an arrow as its pred, since the caller says so of every step on the way.
-use Rattle.std.proofs.Common.{◌≡◌, ◌<◌, length, reverse, arith, ◌∙◌}
+use Rattle.std.proofs.Common.{◌≡◌, ◌<◌, length, reverse, refl, arith, ◌∙◌}
 use Rattle.std.specs.List.{refill}
 use Rattle.loops.specs.Graphs.{of}
-use Rattle.loops.specs.Model.{trail}
+use Rattle.loops.specs.Model.{back, trail}
 use Rattle.circles.proofs.Rings.{refill_whole, listing_none, listing_more, listing_length, listing_turned}
 use Rattle.circles.proofs.list.Goals as goal
 
@@ -17,8 +17,10 @@ push-requires c =
     (omega arith, room)
 
 pub loop-k-preserved : goal.loop-k-preserved
+unfolding back
 loop-k-preserved c =
-    rw (c.step-v.ensures, c.push.ensures.items) (listing_more _ _ _ c.args.preds.graph.shape.sound _ _ _ _ c.requires c.loop-k-test.true c.loop-k.invariant)
+    let step : c.from-v.result ≡ back (of c.args.preds.graph) c.args.preds.list.now 1 c.loop-k.v = rw (c.from-v.ensures, c.from.ensures) refl in
+    rw (step, c.push.ensures.items) (listing_more _ _ _ c.args.preds.graph.shape.sound _ _ _ _ c.requires c.loop-k-test.true c.loop-k.invariant)
 
 pub returns : goal.returns
 returns c =

@@ -15,10 +15,10 @@ look-requires c =
     (length-take-le _ _ few)
 
 pub loop_alone-requires-clause-nameable : goal.loop_alone-requires-clause-nameable
-loop_alone-requires-clause-nameable c = rw c.deref.ensures.0 (seen_nameable c.requires.held c.fixed.ensures c.in_default.ensures)
+loop_alone-requires-clause-nameable c = let found = c.in_default.ensures in rw c.deref.ensures.0 (seen_nameable c.requires.held c.fixed.ensures found.shows found.short)
 
 pub returns-in_default : goal.returns-in_default
-returns-in_default c = λ N held. seen_solved held c.fixed.ensures c.in_default.ensures c.deref.ensures.0 c.loop_alone.ensures
+returns-in_default c = λ N held. seen_solved held c.fixed.ensures c.in_default.ensures.shows c.deref.ensures.0 c.loop_alone.ensures
 
 pub climb-requires : goal.climb-requires
 climb-requires c =

@@ -20,14 +20,14 @@ returns-then-not-in_range c =
 pub slack-requires-clause-there : goal.slack-requires-clause-there
 slack-requires-clause-there c =
     let h = c.header-h.ensures in
-    let told = rw c.in_ok-rule.ensures.ok_part at c.rule.ensures in
+    let told = rw c.in_ok-rule.ensures.ok_part at c.rule.ensures.tells in
     record { accepted = c.requires; registers = h.registers; exists = (told (network_of c.args.file.now) h.registers h.paths).0 }
 
 pub returns : goal.returns
 returns c =
     let f = c.ranges in
     let h = c.header-h.ensures in
-    let told = rw c.in_ok-rule.ensures.ok_part at c.rule.ensures in
+    let told = rw c.in_ok-rule.ensures.ok_part at c.rule.ensures.tells in
     let within = sym c.in_range.ensures ∙ c.if-not-in_range.false in
     as_read _ f.period f.kind f.number f.tail f.head
     (slack_reply _ (faults c.args.file.now) _ c.requires (is_in_range h.registers h.paths _ within told) _ _ (asks_for h.registers h.paths told) (search rules))
